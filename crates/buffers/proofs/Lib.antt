@@ -1,0 +1,3 @@
+mod AndLoop
+pub mod Cases
+pub mod Replace

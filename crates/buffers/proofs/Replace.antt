@@ -1,0 +1,49 @@
+-- Laws of a replaced range, at any offset and of any size.
+use mathlib.Core.Path.{_≡_, refl, sym, ap, _∙_, subst}
+use mathlib.Core.List.{List, [], _∷_, _++_, append-assoc}
+use Prim.Native.Nat.{ℕ, zero, suc, _+_, _-_, _≤_, _<_}
+use native.Mathlib.Omega.{arith}
+use lib.ListN.{length, getD, take, drop, length-append, length-take, length-drop, List·getD-append}
+use lib.Seq.{drop-drop, length-take-le, getD-append-add, getD-take, getD-drop}
+use borrow.Rule.Slice.PartMut.{putMid, midOf}
+use Rattle.buffers.specs.Ranges.{replace, range}
+
+-- what comes back from a lent part &mut s[a..e] is the replaced range
+pub part-back : (a e : ℕ) (xs ys : List ℕ) → a ≤ e → length ys ≡ e - a → putMid a (e - a) xs ys ≡ replace a ys xs
+part-back a e xs ys h l =
+    ap (λ (t : List ℕ). take a xs ++ (ys ++ t)) (drop-drop (e - a) a xs ∙ ap (λ (n : ℕ). drop (a + n) xs) (sym l))
+
+module _ (at : ℕ) (ys xs : List ℕ) (fits : at + length ys ≤ length xs) where
+  head-length : length (take at xs) ≡ at
+  head-length = length-take-le at xs (omega arith)
+
+  pub replace-length : length (replace at ys xs) ≡ length xs
+  replace-length = simp (length-append, length-take-le at xs (omega arith), length-drop) (omega arith)
+
+  pub replace-before : (i d : ℕ) → i < at → getD (replace at ys xs) i d ≡ getD xs i d
+  replace-before i d h =
+      List·getD-append (take at xs) (ys ++ drop (at + length ys) xs) d i (subst (λ (n : ℕ). i < n) (sym head-length) h)
+      ∙ getD-take at xs i d h
+
+  -- past the head, at offset j from it
+  rest : (j d : ℕ) → getD (replace at ys xs) (at + j) d ≡ getD (ys ++ drop (at + length ys) xs) j d
+  rest j d =
+      ap (λ (n : ℕ). getD (replace at ys xs) (n + j) d) (sym head-length)
+      ∙ getD-append-add (take at xs) (ys ++ drop (at + length ys) xs) j d
+
+  pub replace-inside : (j d : ℕ) → j < length ys → getD (replace at ys xs) (at + j) d ≡ getD ys j d
+  replace-inside j d h = rest j d ∙ List·getD-append ys (drop (at + length ys) xs) d j h
+
+  pub replace-after : (i d : ℕ) → at + length ys ≤ i → getD (replace at ys xs) i d ≡ getD xs i d
+  replace-after i d h =
+      ap (λ (n : ℕ). getD (replace at ys xs) n d) (split i h)
+      ∙ rest (length ys + (i - (at + length ys))) d
+      ∙ getD-append-add ys (drop (at + length ys) xs) (i - (at + length ys)) d
+      ∙ getD-drop (at + length ys) xs (i - (at + length ys)) d
+      ∙ ap (λ (n : ℕ). getD xs n d) (join i h)
+    where
+      split : (i : ℕ) → at + length ys ≤ i → i ≡ at + (length ys + (i - (at + length ys)))
+      split i h = omega arith
+
+      join : (i : ℕ) → at + length ys ≤ i → at + length ys + (i - (at + length ys)) ≡ i
+      join i h = omega arith

@@ -1,0 +1,64 @@
+-- `buffers::and` meets its contract. After i turns the first i bytes are ANDed.
+use mathlib.Core.Path.{_≡_, refl, ap, _∙_, sym}
+use Prim.Native.Nat.{ℕ, _≤_, _-_, min}
+use mathlib.Core.List.{List}
+use mathlib.Core.Logic.{⊎-elim}
+use lib.Bits.{bitAnd}
+use native.Mathlib.Omega.{arith}
+use borrow.Author.Needs.{needs}
+use lib.ListN.{length, getD, set, length-set}
+use Rattle.buffers.proofs.AndLoop.{partWay, and-more, and-all}
+use Rattle.buffers.proofs.and.Statement.{statement}
+use Rattle.buffers.proofs.and.Tie as tie
+use Rattle.buffers.proofs.and.Reads as reads
+use Rattle.buffers.proofs.and.Lts as lts
+
+abbrev Inv-loop : tie.InvT-loop
+Inv-loop part₀ other end i₀ part i =
+    (i ≤ end) × (end ≡ min (length part₀) (length other)) × (part ≡ partWay i part₀ other) × (length part ≡ length part₀)
+
+abbrev μ-loop : tie.MeasureT-loop
+μ-loop part₀ other end i₀ part i = end - i
+
+loop-holds : tie.Need-loop-holds Inv-loop μ-loop
+loop-holds c = (omega arith, ⊎-elim (λ w. omega arith) (λ w. omega arith) (c .if1 .came), refl, refl)
+
+slice-read-part : tie.Need-slice-read-part Inv-loop μ-loop
+slice-read-part c = omega arith
+
+shared-slice-read-part : tie.Need-shared-slice-read-part Inv-loop μ-loop
+shared-slice-read-part c = omega arith
+
+slice-write-part : tie.Need-slice-write-part Inv-loop μ-loop
+slice-write-part c = omega arith
+
+add-i : tie.Need-add-i Inv-loop μ-loop
+add-i c = omega arith
+
+loop-less : tie.Need-loop-less Inv-loop μ-loop
+loop-less c = omega arith
+
+loop-again : tie.Need-loop-again Inv-loop μ-loop
+loop-again c =
+    let i = c .before .before .before .loop .i in
+    let xs = c .before .before .before .before .before .args .part .now in
+    let ys = c .before .before .before .before .before .args .other .now in
+    let inv = c .before .before .before .loop .inv in (
+      omega arith,
+      inv .1,
+      ap (λ (t : List ℕ). set t i (bitAnd (getD t i 0) (getD ys i 0))) (inv .2) ∙ and-more i xs ys (omega arith) (omega arith),
+      simp length-set (inv .3),
+    )
+
+same-length : tie.Need-same-length Inv-loop μ-loop
+same-length c = search needs
+
+returns : tie.Need-returns Inv-loop μ-loop
+returns c =
+    c .before .loop .inv .2
+    ∙ and-all (c .before .loop .i) (c .before .before .before .args .part .now) (c .before .before .before .args .other .now)
+    (omega arith) (λ h. omega arith)
+
+pub and-spec : {M : Type 1} → statement M
+and-spec =
+    tie.close (tie.spec Inv-loop μ-loop loop-holds slice-read-part shared-slice-read-part slice-write-part add-i loop-less loop-again same-length returns)

@@ -1,0 +1,34 @@
+// Bytes of lent buffers: a part filled with one value, and a part ANDed with another.
+//
+// Each function is one plain loop over the part that it is lent, which compiles to a call of memset
+// or to vector code. The definitions also say what it is to replace a range of a buffer.
+ghost use mathlib.Core.Path.{_≡_};
+ghost use lib.ListN.{length, replicate};
+ghost use Rattle.buffers.specs.Ranges.{andEach};
+
+// Sets every byte of the part to value.
+pub fn fill(part: &mut [u8], value: u8)
+    ensures { λ _. ⌜ now (part .exit) ≡ replicate (length (now (part .entry))) value ⌝ }
+{
+    let mut i = 0;
+    while i < part.len() {
+        part[i] = value;
+        i += 1;
+    }
+}
+
+// ANDs each byte of the part with the byte of other at the same place, where other has one.
+pub fn and(part: &mut [u8], other: &[u8])
+    ensures { λ _. ⌜ now (part .exit) ≡ andEach (now (part .entry)) (now (other .entry)) ⌝ }
+{
+    let end = if other.len() < part.len() {
+        other.len()
+    } else {
+        part.len()
+    };
+    let mut i = 0;
+    while i < end {
+        part[i] = part[i] & other[i];
+        i += 1;
+    }
+}

@@ -1,0 +1,3 @@
+mod Decode
+pub mod Encode
+pub mod RoundTrip
