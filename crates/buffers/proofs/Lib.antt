@@ -1,3 +1,3 @@
-mod AndLoop
+pub mod Ands
 pub mod Cases
 pub mod Replace

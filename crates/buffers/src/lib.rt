@@ -28,7 +28,9 @@ pub fn and(part: &mut [u8], other: &[u8])
     };
     let mut i = 0;
     while i < end {
-        part[i] = part[i] & other[i];
+        let old = part[i];
+        let new = other[i];
+        part[i] = old & new;
         i += 1;
     }
 }

@@ -7,7 +7,7 @@ use lib.Bits.{bitAnd}
 use native.Mathlib.Omega.{arith}
 use borrow.Author.Needs.{needs}
 use lib.ListN.{length, getD, set, length-set}
-use Rattle.buffers.proofs.AndLoop.{partWay, and-more, and-all}
+use Rattle.buffers.proofs.Ands.{partWay, and-more, and-all}
 use Rattle.buffers.proofs.and.Statement.{statement}
 use Rattle.buffers.proofs.and.Tie as tie
 use Rattle.buffers.proofs.and.Reads as reads
@@ -23,11 +23,11 @@ abbrev μ-loop : tie.MeasureT-loop
 loop-holds : tie.Need-loop-holds Inv-loop μ-loop
 loop-holds c = (omega arith, ⊎-elim (λ w. omega arith) (λ w. omega arith) (c .if1 .came), refl, refl)
 
-slice-read-part : tie.Need-slice-read-part Inv-loop μ-loop
-slice-read-part c = omega arith
+slice-read-old : tie.Need-slice-read-old Inv-loop μ-loop
+slice-read-old c = omega arith
 
-shared-slice-read-part : tie.Need-shared-slice-read-part Inv-loop μ-loop
-shared-slice-read-part c = omega arith
+shared-slice-read-new : tie.Need-shared-slice-read-new Inv-loop μ-loop
+shared-slice-read-new c = omega arith
 
 slice-write-part : tie.Need-slice-write-part Inv-loop μ-loop
 slice-write-part c = omega arith
@@ -61,4 +61,4 @@ returns c =
 
 pub and-spec : {M : Type 1} → statement M
 and-spec =
-    tie.close (tie.spec Inv-loop μ-loop loop-holds slice-read-part shared-slice-read-part slice-write-part add-i loop-less loop-again same-length returns)
+    tie.close (tie.spec Inv-loop μ-loop loop-holds slice-read-old shared-slice-read-new slice-write-part add-i loop-less loop-again same-length returns)

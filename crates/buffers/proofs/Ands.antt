@@ -1,4 +1,4 @@
--- The loop that ANDs one buffer into another: after i turns the first i bytes are done.
+-- Laws of two buffers ANDed, and of the loop that does it: after i turns the first i bytes are done.
 use mathlib.Core.Path.{_≡_, refl, ap}
 use mathlib.Core.List.{List, [], _∷_, _++_}
 use Prim.Native.Nat.{ℕ, zero, suc, _+_, _≤_, _<_, suc-le-suc, zero-le}
@@ -16,6 +16,12 @@ pub length-and : (xs ys : List ℕ) → length (andEach xs ys) ≡ length xs
 length-and [] ys = refl
 length-and (x ∷ xs) [] = refl
 length-and (x ∷ xs) (y ∷ ys) = ap suc (length-and xs ys)
+
+pub and-at : (i : ℕ) (xs ys : List ℕ) → i < length xs → i < length ys → getD (andEach xs ys) i 0 ≡ bitAnd (getD xs i 0) (getD ys i 0)
+and-at i [] ys h k = absurd (not-suc-le-zero h)
+and-at i (x ∷ xs) [] h k = absurd (not-suc-le-zero k)
+and-at zero (x ∷ xs) (y ∷ ys) h k = refl
+and-at (suc i) (x ∷ xs) (y ∷ ys) h k = and-at i xs ys (le-of-suc-le-suc h) (le-of-suc-le-suc k)
 
 step : (i : ℕ) (xs ys : List ℕ) → i < length xs → i < length ys
     → set (partWay i xs ys) i (bitAnd (getD (partWay i xs ys) i 0) (getD ys i 0)) ≡ partWay (suc i) xs ys

@@ -1,0 +1,22 @@
+#!/usr/bin/env python3
+"""A must-fail edit shows something only where a fact no longer holds, and not where the proof file
+merely no longer fits the code. This reads the logs that rt ci left and says which is which."""
+import pathlib
+import sys
+
+ROOT = pathlib.Path(__file__).resolve().parent.parent
+UNFIT = ("that can be named from here", "has no field", "expected type `tie.Need-")
+faults = 0
+edits = sorted(ROOT.glob("crates/*/must-fail/*.edit"))
+for edit in edits:
+    log = ROOT / "target/must-fail" / edit.parts[-3] / edit.stem / ".log"
+    if not log.exists():
+        print(f"must-fail {edit.parts[-3]}/{edit.stem}: no log")
+        faults += 1
+        continue
+    errors = [line for line in log.read_text().splitlines() if ": error" in line or "not proved that" in line]
+    if not errors or any(words in errors[0] for words in UNFIT):
+        print(f"must-fail {edit.parts[-3]}/{edit.stem}: refused for its shape and not for a fact:", errors[:1])
+        faults += 1
+print(f"must-fail edits: {len(edits)} read, {faults} without a fact that fails")
+sys.exit(1 if faults else 0)
