@@ -1,3 +1,2 @@
 pub mod Ands
-pub mod Cases
 pub mod Replace

@@ -12,7 +12,7 @@ use lib.ListN.{length, getD, take, drop, take-append-drop, length-take, length-d
 use lib.Seq.{length-take-le, drop-at, take-at, drop-drop, getD-drop}
 use borrow.Author.Tests.{lt-ltb, le-ltb, ne-eqb, le-leb, ltb-true, leb-true, eqb-false}
 use Rattle.buffers.specs.Ranges.{range, replace}
-use Rattle.buffers.proofs.Cases.{below-or, decided}
+use Rattle.units.proofs.Cases.{below-or, decided}
 use Rattle.leb128.specs.declared.Read.{Read}
 use Rattle.leb128.specs.declared.Read.the-variants.{Number, Short, Malformed}
 use Rattle.leb128.specs.declared.Written.the-variants.{Next, NoRoom}

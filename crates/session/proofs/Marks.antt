@@ -1,0 +1,61 @@
+-- Laws of sound marks, from place i on.
+use mathlib.Core.Path.{_≡_, refl, sym, ap, _∙_}
+use mathlib.Core.Bool.{Bool, true, false, _&&_}
+use mathlib.Core.List.{List, [], _∷_}
+use mathlib.Core.Logic.{_⊎_, ⊎-elim}
+use Prim.Native.Nat.{ℕ, zero, suc, _+_, _-_, _≤_, _<_}
+use native.Mathlib.Numerals.{add-one}
+use native.Mathlib.Omega.{arith}
+use lib.Dec.{leb}
+use lib.ListN.{length, getD, drop, drop-of-length-le}
+use lib.Seq.{drop-cons}
+use borrow.Author.Tests.{le-leb, lt-leb}
+use Rattle.session.specs.Soundness.{marksSound}
+
+module _ (n i : ℕ) (ms : List ℕ) (h : i < length ms) where
+  marks-in : i < n → marksSound (n - i) (drop i ms) ≡ (leb (getD ms i 0) 2 && marksSound (n - (i + 1)) (drop (i + 1) ms))
+  marks-in k =
+      ap (λ (m : ℕ). marksSound m (drop i ms)) left
+      ∙ ap (marksSound (suc (n - (i + 1)))) (drop-cons ms i 0 h)
+      ∙ ap (λ (j : ℕ). leb (getD ms i 0) 2 && marksSound (n - (i + 1)) (drop j ms)) (sym (add-one i))
+    where
+      left : n - i ≡ suc (n - (i + 1))
+      left = omega arith
+
+  marks-out : n ≤ i → marksSound (n - i) (drop i ms) ≡ (leb (getD ms i 0) 0 && marksSound (n - (i + 1)) (drop (i + 1) ms))
+  marks-out k =
+      ap (λ (m : ℕ). marksSound m (drop i ms)) none
+      ∙ ap (marksSound 0) (drop-cons ms i 0 h)
+      ∙ ap (λ (m : ℕ). leb (getD ms i 0) 0 && marksSound m (drop (suc i) ms)) (sym none′)
+      ∙ ap (λ (j : ℕ). leb (getD ms i 0) 0 && marksSound (n - (i + 1)) (drop j ms)) (sym (add-one i))
+    where
+      none : n - i ≡ 0
+      none = omega arith
+
+      none′ : n - (i + 1) ≡ 0
+      none′ = omega arith
+
+  -- what the code compares with: 2 below n, and 0 from n on
+  abbrev pub Most : ℕ → Type 0
+  Most most = ((i < n) × (most ≡ 2)) ⊎ ((n ≤ i) × (most ≡ 0))
+
+  pub mark-over : (most : ℕ) → Most most → most < getD ms i 0 → marksSound (n - i) (drop i ms) ≡ false
+  mark-over most m k =
+      ⊎-elim
+      (λ w. marks-in (w .0) ∙ rw (lt-leb (getD ms i 0) 2 (omega arith)))
+      (λ w. marks-out (w .0) ∙ rw (lt-leb (getD ms i 0) 0 (omega arith)))
+      m
+
+  pub mark-within : (most : ℕ) → Most most → getD ms i 0 ≤ most → marksSound (n - i) (drop i ms) ≡ marksSound (n - (i + 1)) (drop (i + 1) ms)
+  mark-within most m k =
+      ⊎-elim
+      (λ w. marks-in (w .0) ∙ rw (le-leb (getD ms i 0) 2 (omega arith)))
+      (λ w. marks-out (w .0) ∙ rw (le-leb (getD ms i 0) 0 (omega arith)))
+      m
+
+-- past the last mark nothing is left to test
+pub marks-end : (n i : ℕ) (ms : List ℕ) → length ms ≤ i → marksSound (n - i) (drop i ms) ≡ true
+marks-end n i ms h = ap (marksSound (n - i)) (drop-of-length-le ms h) ∙ none (n - i)
+  where
+    none : (m : ℕ) → marksSound m [] ≡ true
+    none m = refl

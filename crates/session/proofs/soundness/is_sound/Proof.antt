@@ -1,0 +1,77 @@
+-- `session::soundness::is_sound` meets its contract.
+use mathlib.Core.Path.{_≡_, sym, ap, _∙_}
+use native.Mathlib.Omega.{arith}
+use borrow.Author.Tests.{le-leb, lt-leb, eq-eqb, ne-eqb, not-true, not-false}
+use borrow.Author.Needs.{needs}
+use mathlib.Core.Bool.{true}
+use Prim.Native.Nat.{ℕ}
+use Rattle.units.specs.Units.{roundUp}
+use Rattle.session.specs.Soundness.{sound, sizesSound, sizeSound, sessionSound}
+use Rattle.session.proofs.Facts.{sized, counted}
+use Rattle.session.proofs.soundness.is_sound.Statement.{statement}
+use Rattle.session.proofs.soundness.is_sound.Tie as tie
+use Rattle.session.proofs.soundness.is_sound.Reads as reads
+use Rattle.session.proofs.soundness.is_sound.Lts as lts
+use Rattle.session.proofs.soundness.session_is_sound.Reads as session-is-sound-reads
+use Rattle.session.proofs.soundness.size_is_sound.Reads as size-is-sound-reads
+use Rattle.units.proofs.Bytes.blocks.Reads as blocks-reads
+
+-- src/soundness.rt:20:9
+size-is-sound-requires : tie.Need-size-is-sound-requires
+size-is-sound-requires c κs = search needs
+
+-- src/soundness.rt:21:9
+returns : tie.Need-returns
+unfolding sound sizesSound
+returns c = rw (sym (c .before .size-is-sound .ensures) ∙ not-true (c .before .size-is-sound .result) (c .if1 .taken))
+
+-- src/soundness.rt:23:9
+size-is-sound-requires-2 : tie.Need-size-is-sound-requires-2
+size-is-sound-requires-2 c κs = search needs
+
+-- src/soundness.rt:24:9
+returns-2 : tie.Need-returns-2
+unfolding sound sizesSound
+returns-2 c =
+    let flash = c .before .before .before .size-is-sound in
+    let memory = c .before .size-is-sound2 in
+    rw (sym (flash .ensures) ∙ not-false (flash .result) (c .before .before .if1 .left), sym (memory .ensures) ∙ not-true (memory .result) (c .if2 .taken))
+
+-- src/soundness.rt:26:24
+blocks-requires : tie.Need-blocks-requires
+blocks-requires c κs = search needs
+
+-- src/soundness.rt:27:25
+blocks-requires-2 : tie.Need-blocks-requires-2
+blocks-requires-2 c κs = search needs
+
+-- src/soundness.rt:28:5
+session-is-sound-requires : tie.Need-session-is-sound-requires
+session-is-sound-requires c κs = search needs
+
+-- src/soundness.rt:17:1
+returns-3 : tie.Need-returns-3
+unfolding sound sizesSound
+returns-3 c =
+    let a = c .before .before .before .before .before .before .before .args in
+    let first = c .before .before .before .before .before .before .size-is-sound in
+    let second = c .before .before .before .before .size-is-sound2 in
+    let flash : sizeSound 65535 (a .flash) ≡ true = sym (first .ensures) ∙ not-false (first .result) (c .before .before .before .before .before .if1 .left) in
+    let memory : sizeSound 64 (a .memory) ≡ true = sym (second .ensures) ∙ not-false (second .result) (c .before .before .before .if2 .left) in
+    rw (flash, memory)
+    ( c .session-is-sound .ensures
+    ∙ ap (λ (n : ℕ). sessionSound n (c .before .blocks3 .result .0) (a .session)) (c .before .before .blocks2 .ensures ∙ counted 65535 (a .flash) (omega arith) (sized 65535 (a .flash) flash))
+    ∙ ap (λ (n : ℕ). sessionSound (roundUp (a .flash)) n (a .session)) (c .before .blocks3 .ensures ∙ counted 64 (a .memory) (omega arith) (sized 64 (a .memory) memory)))
+
+pub is-sound-spec : {M : Type 1} → statement M
+is-sound-spec =
+    tie.close
+    (tie.spec
+    size-is-sound-requires
+    returns
+    size-is-sound-requires-2
+    returns-2
+    blocks-requires
+    blocks-requires-2
+    session-is-sound-requires
+    returns-3)

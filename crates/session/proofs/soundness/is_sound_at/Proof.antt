@@ -1,0 +1,50 @@
+-- `session::soundness::is_sound_at` meets its contract.
+use mathlib.Core.Path.{_≡_, sym, ap, _∙_}
+use mathlib.Core.Bool.{true}
+use Prim.Native.Nat.{ℕ, _+_}
+use native.Mathlib.Omega.{arith}
+use lib.Dec.{leb}
+use borrow.Author.Tests.{not-true, not-false}
+use Rattle.session.specs.Soundness.{sound, soundAt}
+use Rattle.session.proofs.Facts.{sized, sizes, counted}
+use borrow.Author.Needs.{needs}
+use Rattle.session.proofs.soundness.is_sound_at.Statement.{statement}
+use Rattle.session.proofs.soundness.is_sound_at.Tie as tie
+use Rattle.session.proofs.soundness.is_sound_at.Reads as reads
+use Rattle.session.proofs.soundness.is_sound_at.Lts as lts
+use Rattle.session.proofs.soundness.is_sound.Reads as is-sound-reads
+use Rattle.units.proofs.Bytes.blocks.Reads as blocks-reads
+
+-- src/soundness.rt:35:9
+is-sound-requires : tie.Need-is-sound-requires
+is-sound-requires c κs = search needs
+
+-- src/soundness.rt:36:9
+returns : tie.Need-returns
+unfolding soundAt
+returns c = rw (sym (c .before .is-sound .ensures) ∙ not-true (c .before .is-sound .result) (c .if1 .taken))
+
+-- src/soundness.rt:38:25
+blocks-requires : tie.Need-blocks-requires
+blocks-requires c κs = search needs
+
+-- src/soundness.rt:39:21
+cast-result : tie.Need-cast-result
+cast-result c = search needs
+
+-- src/soundness.rt:39:5
+add-result : tie.Need-add-result
+add-result c = search needs
+
+-- src/soundness.rt:32:1
+returns-2 : tie.Need-returns-2
+unfolding soundAt
+returns-2 c =
+    let a = c .before .before .before .args in
+    let s : sound (a .flash) (a .memory) (a .session) ≡ true = sym (c .before .before .is-sound .ensures) ∙ not-false (c .before .before .is-sound .result) (c .before .if1 .left) in
+    let memory = sizes (a .flash) (a .memory) (a .session) s .1 in
+    rw s (ap (λ (n : ℕ). leb (a .lpc + n) 65536) (c .blocks2 .ensures ∙ counted 64 (a .memory) (omega arith) (sized 64 (a .memory) memory)))
+
+pub is-sound-at-spec : {M : Type 1} → statement M
+is-sound-at-spec =
+    tie.close (tie.spec is-sound-requires returns blocks-requires cast-result add-result returns-2)

@@ -1,0 +1,53 @@
+-- Soundness: document 01, "Numbers" and the second paragraph of "Session".
+use Prim.Native.Nat.{ℕ, zero, suc, _+_}
+use mathlib.Core.Bool.{Bool, true, false, _&&_}
+use mathlib.Core.List.{List, [], _∷_}
+use lib.Dec.{leb, eqb}
+use Rattle.units.specs.Units.{toBytes, roundUp}
+use Rattle.session.specs.declared.Session.{Session}
+use Rattle.session.specs.declared.Window.{Window}
+use Rattle.session.specs.declared.Window.the-variants.{Closed, Read, Write}
+
+-- a buffer of so many bytes is "1 to" so many blocks, and "whole blocks"
+unfoldable pub sizeSound : ℕ → ℕ → Bool
+sizeSound most length = leb 1 (roundUp length) && (leb (roundUp length) most && eqb (toBytes (roundUp length)) length)
+
+-- "S, the flash size, is 1 to 65,535 blocks. C, the window memory, is 1 to 64 blocks"; both lengths in bytes
+unfoldable pub sizesSound : ℕ → ℕ → Bool
+sizesSound flash memory = sizeSound 65535 flash && sizeSound 64 memory
+
+-- "an active window has size 1 to C and ends at or before S"
+abbrev pub activeSound : ℕ → ℕ → ℕ → ℕ → Bool
+activeSound first size S C = leb 1 size && (leb size C && leb (first + size) S)
+
+-- "without a window its first block and size are 0"
+abbrev pub windowSound : Window → ℕ → ℕ → ℕ → ℕ → Bool
+windowSound Closed first size S C = eqb first 0 && eqb size 0
+windowSound Read first size S C = activeSound first size S C
+windowSound Write first size S C = activeSound first size S C
+
+-- "only a write window has marks that aren't 0, and only at blocks below its size": how many blocks may have one
+abbrev pub markable : Window → ℕ → ℕ
+markable Closed size = 0
+markable Read size = 0
+markable Write size = size
+
+-- "every mark is 0 to 2", and 0 past the blocks that may have another
+abbrev pub marksSound : ℕ → List ℕ → Bool
+marksSound n [] = true
+marksSound zero (m ∷ ms) = leb m 0 && marksSound zero ms
+marksSound (suc n) (m ∷ ms) = leb m 2 && marksSound n ms
+
+-- "It is sound when: the version is 0 to 2; .."
+unfoldable pub sessionSound : ℕ → ℕ → Session → Bool
+sessionSound S C s =
+    leb (s .version) 2
+    && (windowSound (s .window) (s .first) (s .size) S C && marksSound (markable (s .window) (s .size)) (s .marks))
+
+-- the lent sizes, in bytes, and the session keep the numbers
+unfoldable pub sound : ℕ → ℕ → Session → Bool
+sound flash memory s = sizesSound flash memory && sessionSound (roundUp flash) (roundUp memory) s
+
+-- "B, the window's first LPC block, satisfies B + C <= 65,536"
+unfoldable pub soundAt : ℕ → ℕ → ℕ → Session → Bool
+soundAt lpc flash memory s = sound flash memory s && leb (lpc + roundUp memory) 65536

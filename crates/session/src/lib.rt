@@ -1,0 +1,54 @@
+// The session record: what a fresh one holds, when one is sound, and suspend and resume.
+//
+// Every record value can be made and gets an answer, also those that no command leaves.
+mod soundness;
+mod suspension;
+
+pub use soundness::is_sound;
+pub use soundness::is_sound_at;
+pub use suspension::Suspension;
+pub use suspension::resume;
+pub use suspension::resume_changed;
+pub use suspension::suspend;
+ghost use mathlib.Core.Path.{_≡_};
+ghost use Rattle.session.specs.Record.{fresh};
+
+// The window: none, read or write.
+pub enum Window {
+    Closed,
+    Read,
+    Write,
+}
+
+// The previous sequence number, if any.
+pub enum Previous {
+    Absent,
+    Number(u8),
+}
+
+pub struct Session {
+    pub version: u8,
+    pub previous: Previous,
+    pub events: u8,
+    pub suspended: bool,
+    pub window: Window,
+    pub first: u16,
+    pub size: u16,
+    pub marks: [u8; 64],
+}
+
+// A fresh session.
+pub fn new_session() -> Session
+    ensures { λ r. ⌜ r ≡ fresh ⌝ }
+{
+    Session {
+        version: 0,
+        previous: Previous::Absent,
+        events: 0x81,
+        suspended: false,
+        window: Window::Closed,
+        first: 0,
+        size: 0,
+        marks: [0; 64],
+    }
+}

@@ -1,0 +1,116 @@
+// When the lent sizes and a session are sound.
+use crate::Session;
+use crate::Window;
+use units::Bytes;
+ghost use mathlib.Core.Path.{_≡_};
+ghost use Prim.Native.Nat.{_<_};
+ghost use Rattle.session.specs.Soundness.{sound, soundAt, sizeSound, activeSound, windowSound, markable, marksSound, sessionSound};
+
+// The most blocks of a flash and of a window memory, and how far the LPC blocks go.
+const MOST_FLASH: u32 = 65535;
+
+const MOST_MEMORY: u32 = 64;
+
+const LPC_BLOCKS: u64 = 65536;
+
+// The lent sizes, in bytes, and the session are sound.
+pub fn is_sound(session: Session, flash: usize, memory: usize) -> bool
+    ensures { λ r. ⌜ r ≡ sound flash memory session ⌝ }
+{
+    if !size_is_sound(MOST_FLASH, flash) {
+        return false;
+    }
+    if !size_is_sound(MOST_MEMORY, memory) {
+        return false;
+    }
+    let flash_blocks = Bytes(flash as u64).blocks().0;
+    let memory_blocks = Bytes(memory as u64).blocks().0;
+    session_is_sound(session, flash_blocks, memory_blocks)
+}
+
+// The same, with B: the window memory ends within the LPC blocks.
+pub fn is_sound_at(session: Session, flash: usize, memory: usize, lpc: u16) -> bool
+    ensures { λ r. ⌜ r ≡ soundAt lpc flash memory session ⌝ }
+{
+    if !is_sound(session, flash, memory) {
+        return false;
+    }
+    let memory_blocks = Bytes(memory as u64).blocks().0;
+    (lpc as u64) + (memory_blocks as u64) <= LPC_BLOCKS
+}
+
+// Whole blocks, at least one and at most so many.
+fn size_is_sound(most: u32, length: usize) -> bool
+    requires { ⌜ most < 65536 ⌝ }
+    ensures { λ r. ⌜ r ≡ sizeSound most length ⌝ }
+{
+    let blocks = Bytes(length as u64).blocks();
+    if blocks.0 == 0 {
+        return false;
+    }
+    if most < blocks.0 {
+        return false;
+    }
+    blocks.bytes().0 == length as u64
+}
+
+fn session_is_sound(session: Session, flash: u32, memory: u32) -> bool
+    ensures { λ r. ⌜ r ≡ sessionSound flash memory session ⌝ }
+{
+    if 2 < session.version {
+        return false;
+    }
+    let window = session.window;
+    if !window_is_sound(window, session.first, session.size, flash, memory) {
+        return false;
+    }
+    let marks = session.marks;
+    marks_are_sound(marks, markable_blocks(window, session.size))
+}
+
+fn window_is_sound(window: Window, first: u16, size: u16, flash: u32, memory: u32) -> bool
+    ensures { λ r. ⌜ r ≡ windowSound window first size flash memory ⌝ }
+{
+    match window {
+        Window::Closed => { if first == 0 { size == 0 } else { false } }
+        Window::Read => active_is_sound(first, size, flash, memory),
+        Window::Write => active_is_sound(first, size, flash, memory),
+    }
+}
+
+fn active_is_sound(first: u16, size: u16, flash: u32, memory: u32) -> bool
+    ensures { λ r. ⌜ r ≡ activeSound first size flash memory ⌝ }
+{
+    if size == 0 {
+        return false;
+    }
+    if memory < size as u32 {
+        return false;
+    }
+    (first as u32) + (size as u32) <= flash
+}
+
+// How many blocks of the window may be marked.
+fn markable_blocks(window: Window, size: u16) -> usize
+    ensures { λ r. ⌜ r ≡ markable window size ⌝ }
+{
+    match window {
+        Window::Closed => 0,
+        Window::Read => 0,
+        Window::Write => size as usize,
+    }
+}
+
+fn marks_are_sound(marks: [u8; 64], markable: usize) -> bool
+    ensures { λ r. ⌜ r ≡ marksSound markable marks ⌝ }
+{
+    let mut i = 0;
+    while i < 64 {
+        let most = if i < markable { 2 } else { 0 };
+        if most < marks[i] {
+            return false;
+        }
+        i += 1;
+    }
+    true
+}
