@@ -59,7 +59,7 @@ returns-3 c =
     let flash : sizeSound 65535 (a .flash) ≡ true = sym (first .ensures) ∙ not-false (first .result) (c .before .before .before .before .before .if1 .left) in
     let memory : sizeSound 64 (a .memory) ≡ true = sym (second .ensures) ∙ not-false (second .result) (c .before .before .before .if2 .left) in
     rw (flash, memory)
-    ( c .session-is-sound .ensures
+    (c .session-is-sound .ensures
     ∙ ap (λ (n : ℕ). sessionSound n (c .before .blocks3 .result .0) (a .session)) (c .before .before .blocks2 .ensures ∙ counted 65535 (a .flash) (omega arith) (sized 65535 (a .flash) flash))
     ∙ ap (λ (n : ℕ). sessionSound (roundUp (a .flash)) n (a .session)) (c .before .blocks3 .ensures ∙ counted 64 (a .memory) (omega arith) (sized 64 (a .memory) memory)))
 

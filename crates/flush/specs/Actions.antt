@@ -1,0 +1,46 @@
+-- The chip actions of a flush: document 01, "Chip actions". Blocks are counted within the window.
+use Prim.Native.Nat.{ℕ, zero, suc}
+use mathlib.Core.Bool.{cond}
+use mathlib.Core.List.{List, [], _∷_, _++_}
+use lib.Dec.{eqb}
+use Rattle.chip.specs.Actions.{eraseBlock, programPage}
+
+-- the erase of a block, and the programming of a page of a block
+pub data Action : Type 0 where
+  erase : ℕ → Action
+  program : ℕ → ℕ → Action
+
+-- marks: "0 clean, 1 dirty, 2 erased"
+abbrev pub dirty : ℕ
+dirty = 1
+
+abbrev pub erasedMark : ℕ
+erasedMark = 2
+
+-- so many pages of block b in rising order, from page p on
+abbrev pub pagesFrom : ℕ → ℕ → ℕ → List Action
+pagesFrom b p zero = []
+pagesFrom b p (suc n) = program b p ∷ pagesFrom b (suc p) n
+
+-- "A dirty block needs one erase and then 16 page actions in rising order; an erased block needs the erase only"
+unfoldable pub blockActions : ℕ → ℕ → List Action
+blockActions b mark = cond (eqb mark dirty) (erase b ∷ pagesFrom b 0 16) (cond (eqb mark erasedMark) (erase b ∷ []) [])
+
+-- "A flush takes the marked window blocks in rising order": the actions of these marks, the first of which is block b's
+unfoldable pub actionsFrom : ℕ → List ℕ → List Action
+actionsFrom b [] = []
+actionsFrom b (mark ∷ marks) = blockActions b mark ++ actionsFrom (suc b) marks
+
+-- the list of chip actions of a set of marks
+unfoldable pub flushActions : List ℕ → List Action
+flushActions marks = actionsFrom 0 marks
+
+-- what an action makes of the flash under the window
+unfoldable pub perform : List ℕ → Action → List ℕ → List ℕ
+perform memory (erase b) flash = eraseBlock b flash
+perform memory (program b p) flash = programPage b p memory flash
+
+-- what a list of actions makes of it
+unfoldable pub performAll : List ℕ → List Action → List ℕ → List ℕ
+performAll memory [] flash = flash
+performAll memory (action ∷ actions) flash = performAll memory actions (perform memory action flash)

@@ -1,0 +1,8 @@
+// The flush of a window's marked blocks: all of its chip actions, or one at a time.
+//
+// `marked` works on the part of the flash that the window covers, which its caller lends, and sees
+// neither the chip's size nor the session. `window` takes that part out of the whole flash.
+mod marked;
+
+pub use marked::flush_marked;
+pub use marked::step_marked;

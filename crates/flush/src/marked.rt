@@ -1,0 +1,126 @@
+// The flush of 64 marks, over the window's own part of the flash.
+use chip::erase_block;
+use chip::program_page;
+use units::Blocks;
+ghost use mathlib.Core.Path.{_≡_};
+ghost use mathlib.Core.List.{_∷_, []};
+ghost use Prim.Native.Nat.{_≤_, _<_};
+ghost use lib.Dec.{ltb};
+ghost use lib.ListN.{length, take, drop};
+ghost use Rattle.flush.specs.Actions.{pagesFrom, blockActions, flushActions, performAll};
+ghost use Rattle.flush.specs.Locate.{Located, nthOf};
+
+const DIRTY: u8 = 1;
+
+const ERASED: u8 = 2;
+
+const PAGES: u32 = 16;
+
+// Where an action stands: which of its block's actions it is, or past the end.
+pub enum Place {
+    At { block: u32, nth: u32 },
+    Past,
+}
+
+// Does all actions, and answers their number.
+pub fn flush_marked(part: &mut [u8], memory: &[u8], marks: [u8; 64]) -> u32
+    ensures { λ r. ⌜ (r ≡ length (flushActions marks))
+        × (now (part .exit) ≡ performAll (now (memory .entry)) (flushActions marks) (now (part .entry))) ⌝ }
+{
+    let mut actions: u32 = 0;
+    let mut i: u32 = 0;
+    while i < 64 {
+        let at = i as usize;
+        actions += flush_block(part, memory, Blocks(i), marks[at]);
+        i += 1;
+    }
+    actions
+}
+
+// Does the action after the first so many, and answers whether there was one.
+pub fn step_marked(part: &mut [u8], memory: &[u8], marks: [u8; 64], done: u64) -> bool
+    ensures { λ r. ⌜ (r ≡ ltb done (length (flushActions marks)))
+        × (now (part .exit) ≡ performAll (now (memory .entry)) (take 1 (drop done (flushActions marks))) (now (part .entry))) ⌝ }
+{
+    let place = locate(marks, done);
+    match place {
+        Place::At { block, nth } => {
+            act(part, memory, Blocks(block), nth);
+            true
+        }
+        Place::Past => false,
+    }
+}
+
+// All actions of a block with a mark, and their number.
+fn flush_block(part: &mut [u8], memory: &[u8], block: Blocks, mark: u8) -> u32
+    ensures { λ r. ⌜ (r ≡ length (blockActions (block .0) mark))
+        × (now (part .exit) ≡ performAll (now (memory .entry)) (blockActions (block .0) mark) (now (part .entry))) ⌝ }
+{
+    if mark == DIRTY {
+        erase_block(part, block);
+        program_block(part, memory, block);
+        return 17;
+    }
+    if mark == ERASED {
+        erase_block(part, block);
+        return 1;
+    }
+    0
+}
+
+// The page actions of a block, in rising order.
+fn program_block(part: &mut [u8], memory: &[u8], block: Blocks)
+    ensures { λ _. ⌜ now (part .exit) ≡ performAll (now (memory .entry)) (pagesFrom (block .0) 0 16) (now (part .entry)) ⌝ }
+{
+    let mut page: u32 = 0;
+    while page < PAGES {
+        program_page(part, memory, block, page);
+        page += 1;
+    }
+}
+
+// One action of a block: the erase comes first, then the pages.
+fn act(part: &mut [u8], memory: &[u8], block: Blocks, nth: u32)
+    ensures { λ _. ⌜ now (part .exit) ≡ performAll (now (memory .entry)) (nthOf (block .0) nth ∷ []) (now (part .entry)) ⌝ }
+{
+    if nth == 0 {
+        erase_block(part, block);
+    } else {
+        program_page(part, memory, block, nth - 1);
+    }
+}
+
+// How many actions a mark asks for.
+fn actions_of(mark: u8) -> u32
+    ensures { λ r. ⌜ r ≡ length (blockActions 0 mark) ⌝ }
+{
+    if mark == DIRTY {
+        return 17;
+    }
+    if mark == ERASED {
+        return 1;
+    }
+    0
+}
+
+// The place of the action after the first so many.
+fn locate(marks: [u8; 64], done: u64) -> Place
+    ensures { λ r. ⌜ Located (flushActions marks) done r ⌝ }
+{
+    let mut left = done;
+    let mut i: u32 = 0;
+    while i < 64 {
+        let at = i as usize;
+        let count = actions_of(marks[at]);
+        if left < count as u64 {
+            return Place::At {
+                block: i,
+                nth: left as u32,
+            };
+        }
+        left -= count as u64;
+        i += 1;
+    }
+    Place::Past
+}
