@@ -1,1 +1,2 @@
+mod InWindow
 pub mod Lists

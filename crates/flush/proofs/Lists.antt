@@ -75,10 +75,10 @@ by-mark P b mark d e n =
     ⊎-elim
     (λ (t : eqb mark 1 ≡ true). rw t (d (eqb-true mark 1 t)))
     (λ (t : eqb mark 1 ≡ false).
-      ⊎-elim
-      (λ (u : eqb mark 2 ≡ true). rw (t, u) (e (eqb-true mark 2 u)))
-      (λ (u : eqb mark 2 ≡ false). rw (t, u) n)
-      (decided (eqb mark 2)))
+    ⊎-elim
+    (λ (u : eqb mark 2 ≡ true). rw (t, u) (e (eqb-true mark 2 u)))
+    (λ (u : eqb mark 2 ≡ false). rw (t, u) n)
+    (decided (eqb mark 2)))
     (decided (eqb mark 1))
 
 -- "17 for each dirty block plus 1 for each erased one"
@@ -91,7 +91,7 @@ block-count b mark =
     ⊎-elim
     (λ (t : eqb mark 1 ≡ true). rw t)
     (λ (t : eqb mark 1 ≡ false).
-      ⊎-elim (λ (u : eqb mark 2 ≡ true). rw (t, u)) (λ (u : eqb mark 2 ≡ false). rw (t, u)) (decided (eqb mark 2)))
+    ⊎-elim (λ (u : eqb mark 2 ≡ true). rw (t, u)) (λ (u : eqb mark 2 ≡ false). rw (t, u)) (decided (eqb mark 2)))
     (decided (eqb mark 1))
 
 dirty-nth : (b k : ℕ) → k < 17 → take 1 (drop k (erase b ∷ pagesFrom b 0 16)) ≡ nthOf b k ∷ []
@@ -128,7 +128,7 @@ actions-count b (m ∷ ms) =
         ⊎-elim
         (λ (t : eqb m 1 ≡ true). let u : eqb m 2 ≡ false = ne-eqb m 2 (λ q. two (eqb-true m 1 t) q) in rw (t, u) (omega arith))
         (λ (t : eqb m 1 ≡ false).
-          ⊎-elim (λ (u : eqb m 2 ≡ true). rw (t, u) (omega arith)) (λ (u : eqb m 2 ≡ false). rw (t, u) (omega arith)) (decided (eqb m 2)))
+        ⊎-elim (λ (u : eqb m 2 ≡ true). rw (t, u) (omega arith)) (λ (u : eqb m 2 ≡ false). rw (t, u) (omega arith)) (decided (eqb m 2)))
         (decided (eqb m 1))
       where
         two : m ≡ 1 → m ≡ 2 → ⊥
@@ -151,7 +151,7 @@ module _ (marks : List ℕ) (i : ℕ) (h : i < length marks) where
       ap (actionsFrom 0) (split-at marks i 0 h)
       ∙ actions-append 0 (take i marks) (getD marks i 0 ∷ drop (suc i) marks)
       ∙ ap (λ (c : ℕ). actionsFrom 0 (take i marks) ++ (blockActions c (getD marks i 0) ++ actionsFrom (suc c) (drop (suc i) marks)))
-        (ap (λ (n : ℕ). 0 + n) (length-take-le i marks (omega arith)) ∙ none)
+      (ap (λ (n : ℕ). 0 + n) (length-take-le i marks (omega arith)) ∙ none)
     where
       none : 0 + i ≡ i
       none = omega arith
@@ -165,7 +165,7 @@ module _ (marks : List ℕ) (i : ℕ) (h : i < length marks) where
       ∙ actions-append 0 (take i marks) (getD marks i 0 ∷ [])
       ∙ ap (λ (t : List Action). actionsFrom 0 (take i marks) ++ t) (append-nil (blockActions (0 + length (take i marks)) (getD marks i 0)))
       ∙ ap (λ (c : ℕ). actionsFrom 0 (take i marks) ++ blockActions c (getD marks i 0))
-        (ap (λ (n : ℕ). 0 + n) (length-take-le i marks (omega arith)) ∙ none)
+      (ap (λ (n : ℕ). 0 + n) (length-take-le i marks (omega arith)) ∙ none)
     where
       none : 0 + i ≡ i
       none = omega arith
@@ -182,20 +182,28 @@ module _ (marks : List ℕ) (i : ℕ) (h : i < length marks) where
     where
       A : List Action
       A = flushActions (take i marks)
+
       B : List Action
       B = blockActions i (getD marks i 0)
+
       R : List Action
       R = actionsFrom (suc i) (drop (suc i) marks)
+
       few : left < length B
       few = rw (block-count i (getD marks i 0)) k
+
       lengths : length (flushActions marks) ≡ length A + (length B + length R)
       lengths = ap length actions-split ∙ length-append A (B ++ R) ∙ ap (λ (n : ℕ). length A + n) (length-append B R)
+
       within : left + length A < length (flushActions marks)
       within = omega (arith, few, lengths)
+
       order : left + length A ≡ length A + left
       order = omega arith
+
       there : 1 ≤ length (drop left B)
       there = rw length-drop (omega (arith, few))
+
       found : take 1 (drop (left + length A) (flushActions marks)) ≡ nthOf i left ∷ []
       found =
           ap (λ (xs : List Action). take 1 (drop (left + length A) xs)) actions-split
@@ -210,7 +218,7 @@ pub pages-done : (memory flash : List ℕ) (b n : ℕ)
 pages-done memory flash b n =
     let page : 0 + n ≡ n = omega arith in
     sym
-    ( ap (λ (xs : List Action). performAll memory xs flash) (pages-more b 0 n)
+    (ap (λ (xs : List Action). performAll memory xs flash) (pages-more b 0 n)
     ∙ perform-append memory (pagesFrom b 0 n) (program b (0 + n) ∷ []) flash
     ∙ perform-one memory (program b (0 + n)) (performAll memory (pagesFrom b 0 n) flash)
     ∙ ap (λ (p : ℕ). perform memory (program b p) (performAll memory (pagesFrom b 0 n) flash)) page)
@@ -226,7 +234,7 @@ count-most mark =
     ⊎-elim
     (λ (t : eqb mark 1 ≡ true). rw t (omega arith))
     (λ (t : eqb mark 1 ≡ false).
-      ⊎-elim (λ (u : eqb mark 2 ≡ true). rw (t, u) (omega arith)) (λ (u : eqb mark 2 ≡ false). rw (t, u) (omega arith)) (decided (eqb mark 2)))
+    ⊎-elim (λ (u : eqb mark 2 ≡ true). rw (t, u) (omega arith)) (λ (u : eqb mark 2 ≡ false). rw (t, u) (omega arith)) (decided (eqb mark 2)))
     (decided (eqb mark 1))
 
 -- the marks of one block more are flushed
@@ -235,7 +243,7 @@ pub flushed-more : (memory flash : List ℕ) (marks : List ℕ) (i : ℕ) → i 
     ≡ performAll memory (flushActions (take (i + 1) marks)) flash
 flushed-more memory flash marks i h =
     sym
-    ( ap (λ (xs : List Action). performAll memory xs flash) (actions-more marks i h)
+    (ap (λ (xs : List Action). performAll memory xs flash) (actions-more marks i h)
     ∙ perform-append memory (flushActions (take i marks)) (blockActions i (getD marks i 0)) flash)
 
 pub erase-is : (memory : List ℕ) (b : ℕ) (flash : List ℕ) → performAll memory (erase b ∷ []) flash ≡ eraseBlock b flash

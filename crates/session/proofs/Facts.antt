@@ -1,13 +1,16 @@
 -- What a sound size and a sound session tell.
-use mathlib.Core.Path.{_≡_, sym, _∙_}
-use mathlib.Core.Bool.{true}
+use mathlib.Core.Path.{_≡_}
+use mathlib.Core.Bool.{true, _&&_}
+use lib.Dec.{leb}
 use Prim.Native.Nat.{ℕ, _+_, _≤_, _<_}
 use native.Mathlib.Omega.{arith}
 use borrow.Author.Tests.{leb-true, eqb-true}
 use Rattle.units.proofs.Cases.{both}
 use Rattle.units.specs.Units.{toBytes, roundUp, toBlocks}
 use Rattle.session.specs.declared.Session.{Session}
-use Rattle.session.specs.Soundness.{sizeSound, sizesSound, sessionSound, sound, soundAt}
+use Rattle.session.specs.declared.Window.{Window}
+use Rattle.session.specs.declared.Window.the-variants.{Closed, Read, Write}
+use Rattle.session.specs.Soundness.{sizeSound, sizesSound, activeSound, windowSound, markable, marksSound, sessionSound, sound}
 
 -- a buffer of whole blocks
 pub record Sized (most length : ℕ) : Type 0 where
@@ -33,3 +36,45 @@ sizes flash memory s e =
     let p = both _ _ e in
     let q = both _ _ (p .0) in
     (q .0, q .1, p .1)
+
+active-within : (first size S C : ℕ) → activeSound first size S C ≡ true → (first + size ≤ S) × (size ≤ C)
+active-within first size S C e =
+    let p = both (leb 1 size) (leb size C && leb (first + size) S) e in
+    let q = both (leb size C) (leb (first + size) S) (p .1) in
+    (leb-true (first + size) S (q .1), leb-true size C (q .0))
+
+-- a sound window, active or not, lies in the flash and in the window memory
+window-within : (w : Window) (first size S C : ℕ) → windowSound w first size S C ≡ true → (first + size ≤ S) × (size ≤ C)
+window-within Closed first size S C e =
+    let p = both _ _ e in
+    let f = eqb-true first 0 (p .0) in
+    let z = eqb-true size 0 (p .1) in
+    (omega arith, omega arith)
+window-within Read first size S C e = active-within first size S C e
+window-within Write first size S C e = active-within first size S C e
+
+-- what a sound session tells, in blocks
+pub record Fitting (S C : ℕ) (s : Session) : Type 0 where
+  pub known : s .version ≤ 2
+  pub in-flash : s .first + s .size ≤ S
+  pub in-memory : s .size ≤ C
+  pub window : windowSound (s .window) (s .first) (s .size) S C ≡ true
+  pub marks : marksSound (markable (s .window) (s .size)) (s .marks) ≡ true
+
+pub fitting : (S C : ℕ) (s : Session) → sessionSound S C s ≡ true → Fitting S C s
+unfolding sessionSound
+fitting S C s e =
+    let p = both _ _ e in
+    let q = both _ _ (p .1) in
+    let w = window-within (s .window) (s .first) (s .size) S C (q .0) in
+    record { known = leb-true _ _ (p .0); in-flash = w .0; in-memory = w .1; window = q .0; marks = q .1 }
+
+-- and in bytes: the window's part lies in the flash, and its blocks in the window memory
+pub part-within : (flash memory : ℕ) (s : Session) → sound flash memory s ≡ true
+    → (toBytes (s .first) + toBytes (s .size) ≤ flash) × (toBytes (s .size) ≤ memory)
+part-within flash memory s e =
+    let t = sizes flash memory s e in
+    let f = sized 65535 flash (t .0) in
+    let m = sized 64 memory (t .1) in
+    let w = fitting (roundUp flash) (roundUp memory) s (t .2) in
+    (omega (arith, f .whole, w .in-flash), omega (arith, m .whole, w .in-memory))

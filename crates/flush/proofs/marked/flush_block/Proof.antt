@@ -30,11 +30,12 @@ same-length c = search needs
 returns : tie.Need-returns
 returns c =
     let a = c .before .before .before .before .before .before .before .before .before .before .before .args in
-    let e : blockActions (a .block .0) (a .mark) ≡ erase (a .block .0) ∷ pagesFrom (a .block .0) 0 16 = block-dirty (a .block .0) (a .mark) (search needs) in
-    ( ap length (sym e)
-    , c .before .before .program-block .ensures ∙ ap (performAll (a .memory .now) (pagesFrom (a .block .0) 0 16)) (c .before .before .before .before .before .before .erase-block .ensures .1)
-      ∙ sym (dirty-is (a .memory .now) (a .block .0) (a .part .now))
-      ∙ ap (λ (xs : List Action). performAll (a .memory .now) xs (a .part .now)) (sym e))
+    let e : blockActions (a .block .0) (a .mark) ≡ erase (a .block .0) ∷ pagesFrom (a .block .0) 0 16 = block-dirty (a .block .0) (a .mark) (search needs) in (
+      ap length (sym e),
+      c .before .before .program-block .ensures ∙ ap (performAll (a .memory .now) (pagesFrom (a .block .0) 0 16)) (c .before .before .before .before .before .before .erase-block .ensures .1)
+          ∙ sym (dirty-is (a .memory .now) (a .block .0) (a .part .now))
+          ∙ ap (λ (xs : List Action). performAll (a .memory .now) xs (a .part .now)) (sym e),
+    )
 
 -- src/marked.rt:66:9
 erase-block-requires-2 : tie.Need-erase-block-requires-2
@@ -48,19 +49,21 @@ same-length-2 c = search needs
 returns-2 : tie.Need-returns-2
 returns-2 c =
     let a = c .before .before .before .before .before .before .before .before .args in
-    let e : blockActions (a .block .0) (a .mark) ≡ erase (a .block .0) ∷ [] = block-erased (a .block .0) (a .mark) (search needs) in
-    ( ap length (sym e)
-    , c .before .before .erase-block2 .ensures .1
-      ∙ sym (erase-is (a .memory .now) (a .block .0) (a .part .now))
-      ∙ ap (λ (xs : List Action). performAll (a .memory .now) xs (a .part .now)) (sym e))
+    let e : blockActions (a .block .0) (a .mark) ≡ erase (a .block .0) ∷ [] = block-erased (a .block .0) (a .mark) (search needs) in (
+      ap length (sym e),
+      c .before .before .erase-block2 .ensures .1
+          ∙ sym (erase-is (a .memory .now) (a .block .0) (a .part .now))
+          ∙ ap (λ (xs : List Action). performAll (a .memory .now) xs (a .part .now)) (sym e),
+    )
 
 -- src/marked.rt:56:1
 returns-3 : tie.Need-returns-3
 returns-3 c =
     let a = c .before .before .before .before .args in
-    let e : blockActions (a .block .0) (a .mark) ≡ [] = block-clean (a .block .0) (a .mark) (c .before .if1 .left) (c .if2 .left) in
-    ( ap length (sym e)
-    , sym (ap (λ (xs : List Action). performAll (a .memory .now) xs (a .part .now)) e ∙ perform-none (a .memory .now) (a .part .now)))
+    let e : blockActions (a .block .0) (a .mark) ≡ [] = block-clean (a .block .0) (a .mark) (c .before .if1 .left) (c .if2 .left) in (
+      ap length (sym e),
+      sym (ap (λ (xs : List Action). performAll (a .memory .now) xs (a .part .now)) e ∙ perform-none (a .memory .now) (a .part .now)),
+    )
 
 pub flush-block-spec : {M : Type 1} → statement M
 flush-block-spec =

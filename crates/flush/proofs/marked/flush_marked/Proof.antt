@@ -23,12 +23,13 @@ abbrev μ-loop : tie.MeasureT-loop
 -- src/marked.rt:32:5
 loop-holds : tie.Need-loop-holds Inv-loop μ-loop
 loop-holds c =
-    let a = c .before .before .args in
-    ( omega arith
-    , omega arith
-    , ap length (sym flush-none)
-    , sym (ap (λ (xs : List Action). performAll (a .memory .now) xs (a .part .now)) flush-none ∙ perform-none (a .memory .now) (a .part .now))
-    , refl)
+    let a = c .before .before .args in (
+      omega arith,
+      omega arith,
+      ap length (sym flush-none),
+      sym (ap (λ (xs : List Action). performAll (a .memory .now) xs (a .part .now)) flush-none ∙ perform-none (a .memory .now) (a .part .now)),
+      refl,
+    )
 
 -- src/marked.rt:33:18
 cast-at : tie.Need-cast-at Inv-loop μ-loop
@@ -66,14 +67,15 @@ loop-again c =
     let call = c .before .before .flush-block in
     let mark = getD (a .t3) (l .i) 0 in
     let long : length (a .t3) ≡ 64 = search needs in
-    let count : call .result ≡ countOf mark = call .ensures .0 ∙ block-count (l .i) mark in
-    ( omega arith
-    , omega (arith, count, count-most mark)
-    , omega (arith, count, l .inv .2, count-more (a .t3) (l .i) (omega arith))
-    , call .ensures .1
-      ∙ ap (performAll (a .memory .now) (blockActions (l .i) mark)) (l .inv .3)
-      ∙ flushed-more (a .memory .now) (a .part .now) (a .t3) (l .i) (omega arith)
-    , call .kept .0 ∙ l .inv .4)
+    let count : call .result ≡ countOf mark = call .ensures .0 ∙ block-count (l .i) mark in (
+      omega arith,
+      omega (arith, count, count-most mark),
+      omega (arith, count, l .inv .2, count-more (a .t3) (l .i) (omega arith)),
+      call .ensures .1
+          ∙ ap (performAll (a .memory .now) (blockActions (l .i) mark)) (l .inv .3)
+          ∙ flushed-more (a .memory .now) (a .part .now) (a .t3) (l .i) (omega arith),
+      call .kept .0 ∙ l .inv .4,
+    )
 
 -- src/marked.rt:26:1
 same-length : tie.Need-same-length Inv-loop μ-loop
@@ -85,9 +87,10 @@ returns c =
     let a = c .before .before .before .before .args in
     let l = c .before .loop in
     let long : length (a .t3) ≡ 64 = search needs in
-    let all : take (l .i) (a .t3) ≡ a .t3 = take-all (l .i) (a .t3) (omega arith) in
-    ( l .inv .2 ∙ ap (λ (ms : List ℕ). length (flushActions ms)) all
-    , l .inv .3 ∙ ap (λ (ms : List ℕ). performAll (a .memory .now) (flushActions ms) (a .part .now)) all)
+    let all : take (l .i) (a .t3) ≡ a .t3 = take-all (l .i) (a .t3) (omega arith) in (
+      l .inv .2 ∙ ap (λ (ms : List ℕ). length (flushActions ms)) all,
+      l .inv .3 ∙ ap (λ (ms : List ℕ). performAll (a .memory .now) (flushActions ms) (a .part .now)) all,
+    )
 
 pub flush-marked-spec : {M : Type 1} → statement M
 flush-marked-spec =

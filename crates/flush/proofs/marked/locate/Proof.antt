@@ -51,7 +51,7 @@ returns c =
     let l = c .before .before .before .loop in
     let long : length (a .t1) ≡ 64 = search needs in
     let few : l .left < countOf (getD (a .t1) (l .i) 0) =
-        subst (λ (n : ℕ). l .left < n) (c .before .actions-of .ensures ∙ block-count 0 (getD (a .t1) (l .i) 0)) (c .if1 .taken) in
+    subst (λ (n : ℕ). l .left < n) (c .before .actions-of .ensures ∙ block-count 0 (getD (a .t1) (l .i) 0)) (c .if1 .taken) in
     let found = nth-of (a .t1) (l .i) (omega arith) (l .left) few in
     rw (l .inv .1) at found
 
@@ -78,7 +78,7 @@ loop-again c =
     let l = c .before .before .before .loop in
     let long : length (a .t1) ≡ 64 = search needs in
     let count : c .before .actions-of .result ≡ countOf (getD (a .t1) (l .i) 0) =
-        c .before .actions-of .ensures ∙ block-count 0 (getD (a .t1) (l .i) 0) in
+    c .before .actions-of .ensures ∙ block-count 0 (getD (a .t1) (l .i) 0) in
     (omega arith, omega (arith, count, l .inv .1, count-more (a .t1) (l .i) (omega arith)))
 
 -- src/marked.rt:108:1

@@ -41,13 +41,14 @@ loop-again : tie.Need-loop-again Inv-loop μ-loop
 loop-again c =
     let a = c .before .before .before .before .before .before .before .before .args in
     let l = c .before .before .before .before .before .loop in
-    let call = c .before .before .program-page in
-    ( omega arith
-    , call .ensures .1
-      ∙ sym (program-is (a .memory .now) (a .block .0) (l .page) (l .part))
-      ∙ ap (perform (a .memory .now) (program (a .block .0) (l .page))) (l .inv .1)
-      ∙ pages-done (a .memory .now) (a .part .now) (a .block .0) (l .page)
-    , call .kept .0 ∙ l .inv .2)
+    let call = c .before .before .program-page in (
+      omega arith,
+      call .ensures .1
+          ∙ sym (program-is (a .memory .now) (a .block .0) (l .page) (l .part))
+          ∙ ap (perform (a .memory .now) (program (a .block .0) (l .page))) (l .inv .1)
+          ∙ pages-done (a .memory .now) (a .part .now) (a .block .0) (l .page),
+      call .kept .0 ∙ l .inv .2,
+    )
 
 -- src/marked.rt:73:1
 same-length : tie.Need-same-length Inv-loop μ-loop

@@ -40,19 +40,21 @@ same-length c = search needs
 returns : tie.Need-returns
 returns c =
     let a = c .before .before .before .before .before .before .before .before .before .before .args in
-    let located = subst (Located (flushActions (a .marks)) (a .done)) (c .before .before .before .before .before .place .given .1) (c .before .before .before .before .before .before .before .locate .ensures) in
-    ( sym (lt-ltb (a .done) (length (flushActions (a .marks))) (located .0))
-    , c .before .before .act .ensures ∙ ap (λ (xs : List Action). performAll (a .memory .now) xs (a .part .now)) (sym (located .1)))
+    let located = subst (Located (flushActions (a .marks)) (a .done)) (c .before .before .before .before .before .place .given .1) (c .before .before .before .before .before .before .before .locate .ensures) in (
+      sym (lt-ltb (a .done) (length (flushActions (a .marks))) (located .0)),
+      c .before .before .act .ensures ∙ ap (λ (xs : List Action). performAll (a .memory .now) xs (a .part .now)) (sym (located .1)),
+    )
 
 -- src/marked.rt:41:1
 returns-2 : tie.Need-returns-2
 returns-2 c =
     let a = c .before .before .before .before .before .args in
-    let past = subst (Located (flushActions (a .marks)) (a .done)) (c .enum-told .given .1) (c .before .before .locate .ensures) in
-    ( sym (le-ltb (a .done) (length (flushActions (a .marks))) past)
-    , sym
-      ( ap (λ (xs : List Action). performAll (a .memory .now) (take 1 xs) (a .part .now)) (drop-of-length-le (flushActions (a .marks)) past)
-      ∙ perform-none (a .memory .now) (a .part .now)))
+    let past = subst (Located (flushActions (a .marks)) (a .done)) (c .enum-told .given .1) (c .before .before .locate .ensures) in (
+      sym (le-ltb (a .done) (length (flushActions (a .marks))) past),
+      sym
+          (ap (λ (xs : List Action). performAll (a .memory .now) (take 1 xs) (a .part .now)) (drop-of-length-le (flushActions (a .marks)) past)
+          ∙ perform-none (a .memory .now) (a .part .now)),
+    )
 
 pub step-marked-spec : {M : Type 1} → statement M
 step-marked-spec =

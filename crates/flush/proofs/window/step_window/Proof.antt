@@ -1,0 +1,81 @@
+-- `flush::window::step_window` meets its contract.
+use mathlib.Core.Path.{_≡_, sym, _∙_}
+use mathlib.Core.Bool.{true}
+use native.Mathlib.Omega.{arith}
+use borrow.Author.Needs.{needs}
+use lib.ListN.{length, take, drop}
+use Rattle.flush.specs.Window.{windowActions}
+use Rattle.flush.proofs.InWindow.{performed}
+use Rattle.flush.proofs.window.step_window.Statement.{statement}
+use Rattle.flush.proofs.window.step_window.Tie as tie
+use Rattle.flush.proofs.window.step_window.Reads as reads
+use Rattle.flush.proofs.window.step_window.Lts as lts
+use Rattle.flush.proofs.marked.step_marked.Reads as step-marked-reads
+use Rattle.units.proofs.Blocks.bytes.Reads as bytes-reads
+
+-- src/window.rt:62:24
+cast-t9 : tie.Need-cast-t9
+cast-t9 c = search needs
+
+-- src/window.rt:62:17
+bytes-requires : tie.Need-bytes-requires
+bytes-requires c κs = search needs
+
+-- src/window.rt:63:30
+cast-t9-2 : tie.Need-cast-t9-2
+cast-t9-2 c = search needs
+
+-- src/window.rt:63:23
+bytes-requires-2 : tie.Need-bytes-requires-2
+bytes-requires-2 c κs = search needs
+
+-- src/window.rt:63:15
+add-end : tie.Need-add-end
+add-end c = search needs
+
+-- src/window.rt:65:17
+sub-step-marked : tie.Need-sub-step-marked
+sub-step-marked c = search needs
+
+-- src/window.rt:65:17
+part-step-marked-start : tie.Need-part-step-marked-start
+part-step-marked-start c = search needs
+
+-- src/window.rt:65:17
+part-step-marked-end : tie.Need-part-step-marked-end
+part-step-marked-end c = search needs
+
+-- src/window.rt:65:5
+step-marked-requires : tie.Need-step-marked-requires
+step-marked-requires c κs = search needs
+
+-- src/window.rt:57:1
+same-length : tie.Need-same-length
+same-length c = search needs
+
+-- src/window.rt:57:1
+returns : tie.Need-returns
+returns c =
+    let a = c .before .before .before .before .before .before .before .before .before .before .before .args in
+    let start = c .before .before .before .before .before .before .before .bytes in
+    let size = c .before .before .before .before .before .bytes2 in
+    let call = c .before .before .step-marked in
+    ( call .ensures .0
+    , performed (a .session) (a .memory .now) (a .flash .now) (call .last .0) (start .result .0) (size .result .0) (start .ensures) (size .ensures) (omega arith) (call .kept .0)
+      (take 1 (drop (a .done) (windowActions (a .session)))) (call .ensures .1))
+
+pub step-window-spec : {M : Type 1} → statement M
+step-window-spec =
+    tie.close
+    (tie.spec
+    cast-t9
+    bytes-requires
+    cast-t9-2
+    bytes-requires-2
+    add-end
+    sub-step-marked
+    part-step-marked-start
+    part-step-marked-end
+    step-marked-requires
+    same-length
+    returns)

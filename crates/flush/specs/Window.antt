@@ -1,0 +1,84 @@
+-- The flush of a session's window: document 01, "Chip actions".
+use Prim.Native.Nat.{ℕ, _+_}
+use mathlib.Core.Bool.{Bool, true, false, cond}
+use mathlib.Core.List.{List, []}
+use lib.Dec.{leb, ltb}
+use lib.ListN.{length, take, drop}
+use Rattle.buffers.specs.Ranges.{range, replace}
+use Rattle.units.specs.Units.{toBytes}
+use Rattle.session.specs.declared.Session.{Session}
+use Rattle.session.specs.Soundness.{sound}
+use Rattle.flush.specs.declared.window.Step.{Step}
+use Rattle.flush.specs.declared.window.Step.the-variants.{Unsound, Suspended, Acted, Finished}
+use Rattle.flush.specs.Actions.{Action, flushActions, performAll}
+
+-- the actions of the session's window; without a write window a sound session has no marks
+abbrev pub windowActions : Session → List Action
+windowActions s = flushActions (s .marks)
+
+-- "window (.. first flash block, size)": its part of the flash, and where that ends
+abbrev pub windowPart : Session → List ℕ → List ℕ
+windowPart s flash = range (toBytes (s .first)) (toBytes (s .size)) flash
+
+abbrev pub partEnd : Session → ℕ
+partEnd s = toBytes (s .first) + toBytes (s .size)
+
+-- the flash after some actions in the window's part
+unfoldable pub performIn : Session → List ℕ → List Action → List ℕ → List ℕ
+performIn s memory actions flash = replace (toBytes (s .first)) (performAll memory actions (windowPart s flash)) flash
+
+-- "yes if it did an action and no past the end", and the flash then
+pub record Performed : Type 0 where
+  pub acted : Bool
+  pub flash : List ℕ
+
+-- the action after the first so many
+abbrev pub performStep : Session → List ℕ → ℕ → List ℕ → Performed
+performStep s memory done flash =
+    record {
+      acted = ltb done (length (windowActions s));
+      flash = performIn s memory (take 1 (drop done (windowActions s))) flash;
+    }
+
+-- the answer of a step, and the flash after it
+pub record Advanced : Type 0 where
+  pub answer : Step
+  pub flash : List ℕ
+
+-- "It answers 4 .., then 6 when suspended, and changes nothing; otherwise 1": the number of each answer
+abbrev pub stepCode : Step → ℕ
+stepCode Unsound = 4
+stepCode Suspended = 6
+stepCode Acted = 1
+stepCode Finished = 1
+
+-- "with yes if it did an action and no past the end"
+abbrev pub stepYes : Step → Bool
+stepYes Unsound = false
+stepYes Suspended = false
+stepYes Acted = true
+stepYes Finished = false
+
+-- the flush advanced by one action, "from the session, both buffers and the number of actions already done"
+unfoldable pub advanced : Session → List ℕ → ℕ → List ℕ → Advanced
+advanced s memory done flash =
+    cond (sound (length flash) (length memory) s)
+    (cond (s .suspended)
+    (record { answer = Suspended; flash = flash })
+    (record {
+      answer = cond (performStep s memory done flash .acted) Acted Finished;
+      flash = performStep s memory done flash .flash;
+    }))
+    (record { answer = Unsound; flash = flash })
+
+-- the number of actions, and the flash after them
+pub record Flushed : Type 0 where
+  pub actions : ℕ
+  pub flash : List ℕ
+
+-- all actions of a window that lies in the flash; of any other none
+unfoldable pub flushWhole : Session → List ℕ → List ℕ → Flushed
+flushWhole s memory flash =
+    cond (leb (partEnd s) (length flash))
+    (record { actions = length (windowActions s); flash = performIn s memory (windowActions s) flash })
+    (record { actions = 0; flash = flash })

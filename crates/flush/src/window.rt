@@ -1,0 +1,66 @@
+// The flush of a session's window over the whole flash: only the window's own part is lent on.
+use crate::marked::flush_marked;
+use crate::marked::step_marked;
+use session::Session;
+use session::is_sound;
+use units::Blocks;
+ghost use mathlib.Core.Path.{_≡_};
+ghost use Prim.Native.Nat.{_≤_};
+ghost use lib.ListN.{length};
+ghost use Rattle.flush.specs.Window.{partEnd, advanced, flushWhole, performStep};
+
+// What advancing a flush by one action came to.
+pub enum Step {
+    // The sizes or the session are not sound.
+    Unsound,
+    // Flash access is suspended.
+    Suspended,
+    // One action was done.
+    Acted,
+    // All actions were done before.
+    Finished,
+}
+
+// Advances the flush by one action, from the number of actions already done. Only the flash changes.
+pub fn advance(session: Session, flash: &mut [u8], memory: &[u8], done: u64) -> Step
+    ensures { λ r. ⌜ (r ≡ advanced session (now (memory .entry)) done (now (flash .entry)) .answer)
+        × (now (flash .exit) ≡ advanced session (now (memory .entry)) done (now (flash .entry)) .flash) ⌝ }
+{
+    if !is_sound(session, flash.len(), memory.len()) {
+        return Step::Unsound;
+    }
+    if session.suspended {
+        return Step::Suspended;
+    }
+    if step_window(session, flash, memory, done) {
+        Step::Acted
+    } else {
+        Step::Finished
+    }
+}
+
+// Does all actions of a window that lies in the flash, and answers their number; else none.
+pub fn flush_window(session: Session, flash: &mut [u8], memory: &[u8]) -> u32
+    ensures { λ r. ⌜ (r ≡ flushWhole session (now (memory .entry)) (now (flash .entry)) .actions)
+        × (now (flash .exit) ≡ flushWhole session (now (memory .entry)) (now (flash .entry)) .flash) ⌝ }
+{
+    let start = Blocks(session.first as u32).bytes().0 as usize;
+    let end = start + Blocks(session.size as u32).bytes().0 as usize;
+    if flash.len() < end {
+        return 0;
+    }
+    let marks = session.marks;
+    flush_marked(&mut flash[start..end], memory, marks)
+}
+
+// One action of a window that lies in the flash.
+fn step_window(session: Session, flash: &mut [u8], memory: &[u8], done: u64) -> bool
+    requires { ⌜ partEnd session ≤ length (now flash) ⌝ }
+    ensures { λ r. ⌜ (r ≡ performStep session (now (memory .entry)) done (now (flash .entry)) .acted)
+        × (now (flash .exit) ≡ performStep session (now (memory .entry)) done (now (flash .entry)) .flash) ⌝ }
+{
+    let start = Blocks(session.first as u32).bytes().0 as usize;
+    let end = start + Blocks(session.size as u32).bytes().0 as usize;
+    let marks = session.marks;
+    step_marked(&mut flash[start..end], memory, marks, done)
+}
