@@ -1,12 +1,18 @@
--- Laws of a replaced range, at any offset and of any size.
+-- Laws of a range that is read and of one that is replaced, at any offset and of any size.
 use mathlib.Core.Path.{_≡_, refl, sym, ap, _∙_, subst}
 use mathlib.Core.List.{List, [], _∷_, _++_, append-assoc}
 use Prim.Native.Nat.{ℕ, zero, suc, _+_, _-_, _≤_, _<_}
 use native.Mathlib.Omega.{arith}
-use lib.ListN.{length, getD, take, drop, length-append, length-take, length-drop, List·getD-append}
+use lib.ListN.{length, getD, take, drop, length-append, length-drop, List·getD-append}
 use lib.Seq.{drop-drop, length-take-le, getD-append-add, getD-take, getD-drop}
 use borrow.Rule.Slice.PartMut.{putMid, midOf}
 use Rattle.buffers.specs.Ranges.{replace, range}
+
+pub range-length : (at n : ℕ) (xs : List ℕ) → at + n ≤ length xs → length (range at n xs) ≡ n
+range-length at n xs h = length-take-le n (drop at xs) (rw length-drop (omega arith))
+
+pub range-at : (at n : ℕ) (xs : List ℕ) (j : ℕ) → j < n → getD (range at n xs) j 0 ≡ getD xs (at + j) 0
+range-at at n xs j h = getD-take n (drop at xs) j 0 h ∙ getD-drop at xs j 0
 
 -- what comes back from a lent part &mut s[a..e] is the replaced range
 pub part-back : (a e : ℕ) (xs ys : List ℕ) → a ≤ e → length ys ≡ e - a → putMid a (e - a) xs ys ≡ replace a ys xs

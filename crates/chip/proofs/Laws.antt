@@ -5,11 +5,10 @@ use mathlib.Core.Logic.{_⊎_, ⊎-elim}
 use Prim.Native.Nat.{ℕ, _+_, _-_, _≤_, _<_}
 use native.Mathlib.Omega.{arith}
 use lib.Bits.{bitAnd}
-use lib.ListN.{length, getD, take, drop, replicate, length-replicate, getD-replicate, length-drop}
-use lib.Seq.{length-take-le, getD-take, getD-drop}
+use lib.ListN.{length, getD, replicate, length-replicate, getD-replicate}
 use Rattle.buffers.specs.Ranges.{range, replace, andEach}
 use Rattle.buffers.proofs.Ands.{length-and, and-at}
-use Rattle.buffers.proofs.Replace.{replace-length, replace-before, replace-inside, replace-after}
+use Rattle.buffers.proofs.Replace.{range-length, range-at, replace-length, replace-before, replace-inside, replace-after}
 use Rattle.chip.specs.Actions.{erased, programmed}
 
 -- ---- any bytes in the place of n others
@@ -41,12 +40,6 @@ module _ (at n : ℕ) (flash : List ℕ) (fits : at + n ≤ length flash) where
   erased-inside j h = put-inside at n (replicate n 0xff) flash (length-replicate n 0xff) fits j h ∙ getD-replicate n j 0xff 0 h
 
 -- ---- a page action
-range-length : (at n : ℕ) (xs : List ℕ) → at + n ≤ length xs → length (range at n xs) ≡ n
-range-length at n xs h = length-take-le n (drop at xs) (rw length-drop (omega arith))
-
-range-at : (at n : ℕ) (xs : List ℕ) (j : ℕ) → j < n → getD (range at n xs) j 0 ≡ getD xs (at + j) 0
-range-at at n xs j h = getD-take n (drop at xs) j 0 h ∙ getD-drop at xs j 0
-
 module _ (at n : ℕ) (window flash : List ℕ) (fits : at + n ≤ length flash) where
   size : length (andEach (range at n flash) (range at n window)) ≡ n
   size = length-and (range at n flash) (range at n window) ∙ range-length at n flash fits

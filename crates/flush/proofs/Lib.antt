@@ -1,2 +1,4 @@
+pub mod Bytes
+pub mod Cuts
 mod InWindow
 pub mod Lists

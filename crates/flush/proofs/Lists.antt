@@ -69,7 +69,8 @@ block-clean b mark d e = rw (ne-eqb mark 1 d, ne-eqb mark 2 e)
 
 -- a block's actions by its mark
 pub by-mark : (P : List Action → Type 0) (b mark : ℕ)
-    → (mark ≡ 1 → P (erase b ∷ pagesFrom b 0 16)) → (mark ≡ 2 → P (erase b ∷ [])) → P [] → P (blockActions b mark)
+    → (mark ≡ 1 → P (erase b ∷ pagesFrom b 0 16)) → (mark ≡ 2 → P (erase b ∷ []))
+    → (eqb mark 1 ≡ false → eqb mark 2 ≡ false → P []) → P (blockActions b mark)
 unfolding blockActions
 by-mark P b mark d e n =
     ⊎-elim
@@ -77,7 +78,7 @@ by-mark P b mark d e n =
     (λ (t : eqb mark 1 ≡ false).
     ⊎-elim
     (λ (u : eqb mark 2 ≡ true). rw (t, u) (e (eqb-true mark 2 u)))
-    (λ (u : eqb mark 2 ≡ false). rw (t, u) n)
+    (λ (u : eqb mark 2 ≡ false). rw (t, u) (n t u))
     (decided (eqb mark 2)))
     (decided (eqb mark 1))
 
@@ -105,7 +106,7 @@ erased-nth b (suc k) h = absurd (omega arith)
 pub block-nth : (b mark k : ℕ) → k < length (blockActions b mark) → take 1 (drop k (blockActions b mark)) ≡ nthOf b k ∷ []
 block-nth b mark k =
     by-mark (λ xs. k < length xs → take 1 (drop k xs) ≡ nthOf b k ∷ []) b mark
-    (λ e h. dirty-nth b k h) (λ e h. erased-nth b k h) (λ h. absurd (not-suc-le-zero h))
+    (λ e h. dirty-nth b k h) (λ e h. erased-nth b k h) (λ t u h. absurd (not-suc-le-zero h))
 
 -- ---- the actions of several marks
 -- how many of the marks are this one

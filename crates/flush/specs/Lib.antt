@@ -1,3 +1,4 @@
 pub mod Actions
+pub mod Cut
 pub mod Locate
 pub mod Window

@@ -10,10 +10,17 @@ ghost use lib.ListN.{length, take, drop};
 ghost use Rattle.flush.specs.Actions.{pagesFrom, blockActions, flushActions, performAll};
 ghost use Rattle.flush.specs.Locate.{Located, nthOf};
 
+// The marks that ask for actions.
 const DIRTY: u8 = 1;
 
 const ERASED: u8 = 2;
 
+// How many actions each asks for.
+const DIRTY_ACTIONS: u32 = 17;
+
+const ERASED_ACTIONS: u32 = 1;
+
+// The pages of a block.
 const PAGES: u32 = 16;
 
 // Where an action stands: which of its block's actions it is, or past the end.
@@ -60,11 +67,11 @@ fn flush_block(part: &mut [u8], memory: &[u8], block: Blocks, mark: u8) -> u32
     if mark == DIRTY {
         erase_block(part, block);
         program_block(part, memory, block);
-        return 17;
+        return DIRTY_ACTIONS;
     }
     if mark == ERASED {
         erase_block(part, block);
-        return 1;
+        return ERASED_ACTIONS;
     }
     0
 }
@@ -96,10 +103,10 @@ fn actions_of(mark: u8) -> u32
     ensures { λ r. ⌜ r ≡ length (blockActions 0 mark) ⌝ }
 {
     if mark == DIRTY {
-        return 17;
+        return DIRTY_ACTIONS;
     }
     if mark == ERASED {
-        return 1;
+        return ERASED_ACTIONS;
     }
     0
 }

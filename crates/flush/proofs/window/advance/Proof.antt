@@ -49,7 +49,7 @@ returns-3 c =
     let a = c .before .before .before .before .before .before .before .before .before .before .args in
     let call = c .before .before .before .step-window in
     let w = acted (a .session) (a .memory .now) (a .done) (a .flash .now) (sym (c .before .before .before .before .before .before .before .is-sound .ensures) ∙ not-false (c .before .before .before .before .before .before .before .is-sound .result) (c .before .before .before .before .before .before .if1 .left))
-        (c .before .before .before .before .before .if2 .left) (sym (call .ensures .0) ∙ c .if3 .taken) in
+    (c .before .before .before .before .before .if2 .left) (sym (call .ensures .0) ∙ c .if3 .taken) in
     (w .0, call .ensures .1 ∙ w .1)
 
 -- src/window.rt:25:1
@@ -62,7 +62,7 @@ returns-4 c =
     let a = c .before .before .before .before .before .before .before .before .before .before .args in
     let call = c .before .before .before .step-window in
     let w = finished (a .session) (a .memory .now) (a .done) (a .flash .now) (sym (c .before .before .before .before .before .before .before .is-sound .ensures) ∙ not-false (c .before .before .before .before .before .before .before .is-sound .result) (c .before .before .before .before .before .before .if1 .left))
-        (c .before .before .before .before .before .if2 .left) (sym (call .ensures .0) ∙ c .if3 .left) in
+    (c .before .before .before .before .before .if2 .left) (sym (call .ensures .0) ∙ c .if3 .left) in
     (w .0, call .ensures .1 ∙ w .1)
 
 pub advance-spec : {M : Type 1} → statement M
