@@ -16,7 +16,7 @@ use Rattle.units.proofs.Cases.{decided, below-or, both}
 use Rattle.units.specs.Units.{toBytes}
 use Rattle.session.specs.Soundness.{marksSound}
 use Rattle.flush.specs.Actions.{Action, erase, program, pagesFrom, blockActions, actionsFrom, flushActions, performAll}
-use Rattle.flush.specs.Cut.{blockOf, own, none, Progress, passed, underWork, ahead, progress, blockAt, holds}
+use Rattle.flush.specs.Cut.{blockOf, own, none, Progress, passed, underWork, ahead, progress, blockAt, leaves}
 use Rattle.buffers.proofs.Replace.{range-length, range-at}
 use Rattle.flush.proofs.Lists.{by-mark, perform-none}
 use Rattle.flush.proofs.Bytes.{byteAfter, bytesAfter, bytes-append, In, AllIn, performed-length, performed-byte}
@@ -197,7 +197,7 @@ module _ (n : ℕ) (memory : List ℕ) (room : toBytes n ≤ length memory) (par
 
   -- is what its own actions leave
   pub block-after : (actions : List Action) → AllIn n actions → (b : ℕ) → b < n
-      → blockAt b (performAll memory actions part) ≡ blockAt b (performAll memory (own b actions) part)
+      → blockAt b (performAll memory actions part) ≡ leaves memory b actions part
   block-after actions all b h =
       ext-getD 0 (blockAt b (performAll memory actions part)) (blockAt b (performAll memory (own b actions) part))
       (long (performAll memory actions part) (after-length actions all) ∙ sym (long (performAll memory (own b actions) part) (after-length (own b actions) (own-all n b actions all))))
@@ -217,37 +217,58 @@ module _ (n : ℕ) (memory : List ℕ) (room : toBytes n ≤ length memory) (par
           ∙ sym (performed-byte n memory room (own b actions) (own-all n b actions all) part size x)
           ∙ sym (range-at (toBytes b) 4096 (performAll memory (own b actions) part) i l)
 
-  -- and after the first j of a flush it holds what its progress says
-  pub cut-holds : (marks : List ℕ) → marksSound n marks ≡ true → (j b : ℕ) → b < n
-      → blockAt b (performAll memory (take j (flushActions marks)) part)
-      ≡ holds (progress b j (flushActions marks)) memory b j (flushActions marks) part
-  cut-holds marks sound j b h =
-      block-after (take j actions) (all-take n j actions (all-flush n marks sound)) b h
-      ∙ ⊎-elim
-      (λ (t : none (own b (drop j actions)) ≡ true). rw t (ap (λ (xs : List Action). blockAt b (performAll memory xs part)) (whole (none-is (own b (drop j actions)) t))))
-      (λ (t : none (own b (drop j actions)) ≡ false).
-      ⊎-elim
-      (λ (u : none (own b (take 1 (drop j actions))) ≡ true).
-      rw (t, u)
-      (ap (λ (xs : List Action). blockAt b (performAll memory xs part)) (ahead-none 0 j b actions (rising-flush marks) t u)
-      ∙ ap (blockAt b) (perform-none memory part)))
-      (λ (u : none (own b (take 1 (drop j actions))) ≡ false). rw (t, u))
-      (decided (none (own b (take 1 (drop j actions))))))
-      (decided (none (own b (drop j actions))))
+  -- a block that is passed is finished
+  pub passed-finished : (marks : List ℕ) (j b : ℕ) → progress b j (flushActions marks) ≡ passed
+      → leaves memory b (take j (flushActions marks)) part ≡ leaves memory b (flushActions marks) part
+  passed-finished marks j b p =
+      ap (λ (xs : List Action). blockAt b (performAll memory xs part)) (whole (none-is (own b (drop j (flushActions marks))) (only (flushActions marks) p)))
     where
-      actions : List Action
-      actions = flushActions marks
-
-      whole : own b (drop j actions) ≡ [] → own b (take j actions) ≡ own b actions
+      ahead-not : ahead ≡ passed → ⊥
+      ahead-not e = let z : _≡_ {A = ℕ} 0 1 = cc in omega arith
+      work-not : underWork ≡ passed → ⊥
+      work-not e = let z : _≡_ {A = ℕ} 0 1 = cc in omega arith
+      only : (actions : List Action) → progress b j actions ≡ passed → none (own b (drop j actions)) ≡ true
+      only actions e =
+          ⊎-elim (λ t. t)
+          (λ (t : none (own b (drop j actions)) ≡ false).
+            ⊎-elim
+            (λ (u : none (own b (take 1 (drop j actions))) ≡ true). absurd (ahead-not (rw (t, u) at e)))
+            (λ (u : none (own b (take 1 (drop j actions))) ≡ false). absurd (work-not (rw (t, u) at e)))
+            (decided (none (own b (take 1 (drop j actions))))))
+          (decided (none (own b (drop j actions))))
+      whole : own b (drop j (flushActions marks)) ≡ [] → own b (take j (flushActions marks)) ≡ own b (flushActions marks)
       whole e =
           sym
-          (ap (own b) (sym (take-append-drop j actions))
-          ∙ own-append b (take j actions) (drop j actions)
-          ∙ ap (λ (xs : List Action). own b (take j actions) ++ xs) e
-          ∙ append-nil (own b (take j actions)))
+          ( ap (own b) (sym (take-append-drop j (flushActions marks)))
+          ∙ own-append b (take j (flushActions marks)) (drop j (flushActions marks))
+          ∙ ap (λ (xs : List Action). own b (take j (flushActions marks)) ++ xs) e
+          ∙ append-nil (own b (take j (flushActions marks))))
+
+  -- and one that is ahead is old
+  pub ahead-old : (marks : List ℕ) (j b : ℕ) → progress b j (flushActions marks) ≡ ahead → leaves memory b (take j (flushActions marks)) part ≡ blockAt b part
+  ahead-old marks j b p =
+      let q = only (flushActions marks) p in
+      ap (λ (xs : List Action). blockAt b (performAll memory xs part)) (ahead-none 0 j b (flushActions marks) (rising-flush marks) (q .0) (q .1))
+      ∙ ap (blockAt b) (perform-none memory part)
+    where
+      passed-not : passed ≡ ahead → ⊥
+      passed-not e = let z : _≡_ {A = ℕ} 0 1 = cc in omega arith
+      work-not : underWork ≡ ahead → ⊥
+      work-not e = let z : _≡_ {A = ℕ} 0 1 = cc in omega arith
+      only : (actions : List Action) → progress b j actions ≡ ahead
+          → (none (own b (drop j actions)) ≡ false) × (none (own b (take 1 (drop j actions))) ≡ true)
+      only actions e =
+          ⊎-elim
+          (λ (t : none (own b (drop j actions)) ≡ true). absurd (passed-not (rw t at e)))
+          (λ (t : none (own b (drop j actions)) ≡ false).
+            ⊎-elim
+            (λ (u : none (own b (take 1 (drop j actions))) ≡ true). (t, u))
+            (λ (u : none (own b (take 1 (drop j actions))) ≡ false). absurd (work-not (rw (t, u) at e)))
+            (decided (none (own b (take 1 (drop j actions))))))
+          (decided (none (own b (drop j actions))))
 
 -- ---- the flush run to its end, byte by byte
--- what a mark makes of a byte: "dirty blocks become the window's bytes, erased blocks become FF"
+-- what a mark makes of a byte: dirty blocks become the window's bytes, erased blocks become FF
 abbrev pub byteOf : ℕ → ℕ → ℕ → ℕ
 byteOf mark new old = cond (eqb mark 1) (bitAnd 0xff new) (cond (eqb mark 2) 0xff old)
 

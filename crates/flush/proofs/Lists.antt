@@ -12,7 +12,7 @@ use lib.ListN.{length, getD, take, drop, length-append, length-drop}
 use lib.Seq.{take-suc, take-append-le, drop-append-le, drop-append-add, split-at, length-take-le}
 use borrow.Author.Tests.{eq-eqb, ne-eqb, eqb-true}
 use Rattle.units.proofs.Cases.{decided, below-or}
-use Rattle.flush.specs.Actions.{Action, erase, program, pagesFrom, blockActions, actionsFrom, flushActions, perform, performAll}
+use Rattle.flush.specs.Actions.{Action, erase, program, marksOf, pagesFrom, blockActions, actionsFrom, flushActions, perform, performAll}
 use Rattle.chip.specs.Actions.{eraseBlock, programPage}
 use Rattle.flush.specs.Locate.{nthOf}
 
@@ -109,14 +109,9 @@ block-nth b mark k =
     (λ e h. dirty-nth b k h) (λ e h. erased-nth b k h) (λ t u h. absurd (not-suc-le-zero h))
 
 -- ---- the actions of several marks
--- how many of the marks are this one
-pub marksOf : ℕ → List ℕ → ℕ
-marksOf mark [] = 0
-marksOf mark (m ∷ ms) = cond (eqb m mark) 1 0 + marksOf mark ms
-
 -- "17 for each dirty block plus 1 for each erased one"
 pub actions-count : (b : ℕ) (marks : List ℕ) → length (actionsFrom b marks) ≡ 17 * marksOf 1 marks + marksOf 2 marks
-unfolding actionsFrom marksOf countOf
+unfolding actionsFrom countOf
 actions-count b [] = refl
 actions-count b (m ∷ ms) =
     length-append (blockActions b m) (actionsFrom (suc b) ms)
@@ -142,6 +137,30 @@ actions-append b (x ∷ xs) ys =
     ap (λ (t : List Action). blockActions b x ++ t)
     (actions-append (suc b) xs ys ∙ ap (λ (c : ℕ). actionsFrom (suc b) xs ++ actionsFrom c ys) (omega arith))
     ∙ sym (append-assoc (blockActions b x) (actionsFrom (suc b) xs) (actionsFrom (b + suc (length xs)) ys))
+
+pub flush-count : (marks : List ℕ) → length (flushActions marks) ≡ 17 * marksOf 1 marks + marksOf 2 marks
+unfolding flushActions
+flush-count marks = actions-count 0 marks
+
+-- "at most 1,088"
+marks-most : (marks : List ℕ) → 17 * marksOf 1 marks + marksOf 2 marks ≤ 17 * length marks
+marks-most [] = omega arith
+marks-most (m ∷ ms) =
+    ⊎-elim
+    (λ (t : eqb m 1 ≡ true).
+      let u : eqb m 2 ≡ false = ne-eqb m 2 (λ q. two (eqb-true m 1 t) q) in rw (t, u) (omega (arith, marks-most ms)))
+    (λ (t : eqb m 1 ≡ false).
+      ⊎-elim
+      (λ (u : eqb m 2 ≡ true). rw (t, u) (omega (arith, marks-most ms)))
+      (λ (u : eqb m 2 ≡ false). rw (t, u) (omega (arith, marks-most ms)))
+      (decided (eqb m 2)))
+    (decided (eqb m 1))
+  where
+    two : m ≡ 1 → m ≡ 2 → ⊥
+    two p q = omega arith
+
+pub flush-most : (marks : List ℕ) → length marks ≡ 64 → length (flushActions marks) ≤ 1088
+flush-most marks long = omega (arith, flush-count marks, marks-most marks)
 
 module _ (marks : List ℕ) (i : ℕ) (h : i < length marks) where
   -- those of the blocks before i, of block i, and of the blocks after it

@@ -1,9 +1,9 @@
 -- The chip actions of a flush: document 01, "Chip actions". Blocks are counted within the window.
-use Prim.Native.Nat.{ℕ, zero, suc}
+use Prim.Native.Nat.{ℕ, zero, suc, _+_}
 use mathlib.Core.Bool.{cond}
 use mathlib.Core.List.{List, [], _∷_, _++_}
 use lib.Dec.{eqb}
-use Rattle.chip.specs.Actions.{eraseBlock, programPage}
+use Rattle.chip.specs.Actions.{blockPages, eraseBlock, programPage}
 
 -- the erase of a block, and the programming of a page of a block
 pub data Action : Type 0 where
@@ -17,6 +17,11 @@ dirty = 1
 abbrev pub erasedMark : ℕ
 erasedMark = 2
 
+-- how many of the marks are this one
+abbrev pub marksOf : ℕ → List ℕ → ℕ
+marksOf mark [] = 0
+marksOf mark (m ∷ ms) = cond (eqb m mark) 1 0 + marksOf mark ms
+
 -- so many pages of block b in rising order, from page p on
 abbrev pub pagesFrom : ℕ → ℕ → ℕ → List Action
 pagesFrom b p zero = []
@@ -24,7 +29,7 @@ pagesFrom b p (suc n) = program b p ∷ pagesFrom b (suc p) n
 
 -- "A dirty block needs one erase and then 16 page actions in rising order; an erased block needs the erase only"
 unfoldable pub blockActions : ℕ → ℕ → List Action
-blockActions b mark = cond (eqb mark dirty) (erase b ∷ pagesFrom b 0 16) (cond (eqb mark erasedMark) (erase b ∷ []) [])
+blockActions b mark = cond (eqb mark dirty) (erase b ∷ pagesFrom b 0 blockPages) (cond (eqb mark erasedMark) (erase b ∷ []) [])
 
 -- "A flush takes the marked window blocks in rising order": the actions of these marks, the first of which is block b's
 unfoldable pub actionsFrom : ℕ → List ℕ → List Action

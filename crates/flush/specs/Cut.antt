@@ -36,8 +36,6 @@ progress b j actions =
 abbrev pub blockAt : ℕ → List ℕ → List ℕ
 blockAt b part = range (toBytes b) blockBytes part
 
--- "It holds what its actions among the first j make of its old bytes; finished is what all of them make": a block's bytes by its progress
-abbrev pub holds : Progress → List ℕ → ℕ → ℕ → List Action → List ℕ → List ℕ
-holds passed memory b j actions old = blockAt b (performAll memory (own b actions) old)
-holds underWork memory b j actions old = blockAt b (performAll memory (own b (take j actions)) old)
-holds ahead memory b j actions old = blockAt b old
+-- what block b holds after a list of actions: "what its actions .. make of its old bytes"
+abbrev pub leaves : List ℕ → ℕ → List Action → List ℕ → List ℕ
+leaves memory b actions old = blockAt b (performAll memory (own b actions) old)

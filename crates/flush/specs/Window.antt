@@ -1,8 +1,8 @@
 -- The flush of a session's window: document 01, "Chip actions".
 use Prim.Native.Nat.{ℕ, _+_}
 use mathlib.Core.Bool.{Bool, true, false, cond}
-use mathlib.Core.List.{List, []}
-use lib.Dec.{leb, ltb}
+use mathlib.Core.List.{List}
+use lib.Dec.{ltb}
 use lib.ListN.{length, take, drop}
 use Rattle.buffers.specs.Ranges.{range, replace}
 use Rattle.units.specs.Units.{toBytes}
@@ -27,23 +27,18 @@ partEnd s = toBytes (s .first) + toBytes (s .size)
 unfoldable pub performIn : Session → List ℕ → List Action → List ℕ → List ℕ
 performIn s memory actions flash = replace (toBytes (s .first)) (performAll memory actions (windowPart s flash)) flash
 
--- "yes if it did an action and no past the end", and the flash then
+-- whether an action was done, and the flash then
 pub record Performed : Type 0 where
   pub acted : Bool
   pub flash : List ℕ
 
--- the action after the first so many
+-- the action after the first so many, if there is one
 abbrev pub performStep : Session → List ℕ → ℕ → List ℕ → Performed
 performStep s memory done flash =
     record {
       acted = ltb done (length (windowActions s));
       flash = performIn s memory (take 1 (drop done (windowActions s))) flash;
     }
-
--- the answer of a step, and the flash after it
-pub record Advanced : Type 0 where
-  pub answer : Step
-  pub flash : List ℕ
 
 -- "It answers 4 .., then 6 when suspended, and changes nothing; otherwise 1": the number of each answer
 abbrev pub stepCode : Step → ℕ
@@ -59,26 +54,33 @@ stepYes Suspended = false
 stepYes Acted = true
 stepYes Finished = false
 
--- the flush advanced by one action, "from the session, both buffers and the number of actions already done"
+-- the code of a step, its yes or no, and the flash after it
+pub record Advanced : Type 0 where
+  pub code : ℕ
+  pub yes : Bool
+  pub flash : List ℕ
+
+-- the flush advanced by one action, "from the session, both buffers and the number of actions already done"; B is not given
 unfoldable pub advanced : Session → List ℕ → ℕ → List ℕ → Advanced
 advanced s memory done flash =
     cond (sound (length flash) (length memory) s)
     (cond (s .suspended)
-    (record { answer = Suspended; flash = flash })
+    (record { code = 6; yes = false; flash = flash })
     (record {
-      answer = cond (performStep s memory done flash .acted) Acted Finished;
+      code = 1;
+      yes = performStep s memory done flash .acted;
       flash = performStep s memory done flash .flash;
     }))
-    (record { answer = Unsound; flash = flash })
+    (record { code = 4; yes = false; flash = flash })
 
 -- the number of actions, and the flash after them
 pub record Flushed : Type 0 where
   pub actions : ℕ
   pub flash : List ℕ
 
--- all actions of a window that lies in the flash; of any other none
+-- all actions of a sound session's window; of any other none
 unfoldable pub flushWhole : Session → List ℕ → List ℕ → Flushed
 flushWhole s memory flash =
-    cond (leb (partEnd s) (length flash))
+    cond (sound (length flash) (length memory) s)
     (record { actions = length (windowActions s); flash = performIn s memory (windowActions s) flash })
     (record { actions = 0; flash = flash })

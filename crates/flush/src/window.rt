@@ -7,7 +7,7 @@ use units::Blocks;
 ghost use mathlib.Core.Path.{_≡_};
 ghost use Prim.Native.Nat.{_≤_};
 ghost use lib.ListN.{length};
-ghost use Rattle.flush.specs.Window.{partEnd, advanced, flushWhole, performStep};
+ghost use Rattle.flush.specs.Window.{windowActions, partEnd, performIn, performStep, stepCode, stepYes, advanced, flushWhole};
 
 // What advancing a flush by one action came to.
 pub enum Step {
@@ -23,7 +23,8 @@ pub enum Step {
 
 // Advances the flush by one action, from the number of actions already done. Only the flash changes.
 pub fn advance(session: Session, flash: &mut [u8], memory: &[u8], done: u64) -> Step
-    ensures { λ r. ⌜ (r ≡ advanced session (now (memory .entry)) done (now (flash .entry)) .answer)
+    ensures { λ r. ⌜ (stepCode r ≡ advanced session (now (memory .entry)) done (now (flash .entry)) .code)
+        × (stepYes r ≡ advanced session (now (memory .entry)) done (now (flash .entry)) .yes)
         × (now (flash .exit) ≡ advanced session (now (memory .entry)) done (now (flash .entry)) .flash) ⌝ }
 {
     if !is_sound(session, flash.len(), memory.len()) {
@@ -32,29 +33,38 @@ pub fn advance(session: Session, flash: &mut [u8], memory: &[u8], done: u64) -> 
     if session.suspended {
         return Step::Suspended;
     }
-    if step_window(session, flash, memory, done) {
+    if step_part(session, flash, memory, done) {
         Step::Acted
     } else {
         Step::Finished
     }
 }
 
-// Does all actions of a window that lies in the flash, and answers their number; else none.
+// Does all actions of a sound session's window, suspended or not, and answers their number.
 pub fn flush_window(session: Session, flash: &mut [u8], memory: &[u8]) -> u32
     ensures { λ r. ⌜ (r ≡ flushWhole session (now (memory .entry)) (now (flash .entry)) .actions)
         × (now (flash .exit) ≡ flushWhole session (now (memory .entry)) (now (flash .entry)) .flash) ⌝ }
 {
-    let start = Blocks(session.first as u32).bytes().0 as usize;
-    let end = start + Blocks(session.size as u32).bytes().0 as usize;
-    if flash.len() < end {
+    if !is_sound(session, flash.len(), memory.len()) {
         return 0;
     }
+    flush_part(session, flash, memory)
+}
+
+// All actions of a window that lies in the flash.
+fn flush_part(session: Session, flash: &mut [u8], memory: &[u8]) -> u32
+    requires { ⌜ partEnd session ≤ length (now flash) ⌝ }
+    ensures { λ r. ⌜ (r ≡ length (windowActions session))
+        × (now (flash .exit) ≡ performIn session (now (memory .entry)) (windowActions session) (now (flash .entry))) ⌝ }
+{
+    let start = Blocks(session.first as u32).bytes().0 as usize;
+    let end = start + Blocks(session.size as u32).bytes().0 as usize;
     let marks = session.marks;
     flush_marked(&mut flash[start..end], memory, marks)
 }
 
 // One action of a window that lies in the flash.
-fn step_window(session: Session, flash: &mut [u8], memory: &[u8], done: u64) -> bool
+fn step_part(session: Session, flash: &mut [u8], memory: &[u8], done: u64) -> bool
     requires { ⌜ partEnd session ≤ length (now flash) ⌝ }
     ensures { λ r. ⌜ (r ≡ performStep session (now (memory .entry)) done (now (flash .entry)) .acted)
         × (now (flash .exit) ≡ performStep session (now (memory .entry)) done (now (flash .entry)) .flash) ⌝ }

@@ -12,7 +12,7 @@ use Rattle.flush.proofs.window.advance.Statement.{statement}
 use Rattle.flush.proofs.window.advance.Tie as tie
 use Rattle.flush.proofs.window.advance.Reads as reads
 use Rattle.flush.proofs.window.advance.Lts as lts
-use Rattle.flush.proofs.window.step_window.Reads as step-window-reads
+use Rattle.flush.proofs.window.step_part.Reads as step-part-reads
 use Rattle.session.proofs.is_sound.Reads as is-sound-reads
 
 -- src/window.rt:29:9
@@ -32,8 +32,8 @@ returns-2 c =
     suspended (a .session) (a .memory .now) (a .done) (a .flash .now) (sym (c .before .before .is-sound .ensures) ∙ not-false (c .before .before .is-sound .result) (c .before .if1 .left)) (c .if2 .taken)
 
 -- src/window.rt:35:8
-step-window-requires : tie.Need-step-window-requires
-step-window-requires c κs =
+step-part-requires : tie.Need-step-part-requires
+step-part-requires c κs =
     let a = c .before .before .before .before .before .before .args in
     let call = c .before .before .before .is-sound in
     part-within (length (a .flash .now)) (length (a .memory .now)) (a .session)
@@ -47,10 +47,10 @@ same-length c = search needs
 returns-3 : tie.Need-returns-3
 returns-3 c =
     let a = c .before .before .before .before .before .before .before .before .before .before .args in
-    let call = c .before .before .before .step-window in
+    let call = c .before .before .before .step-part in
     let w = acted (a .session) (a .memory .now) (a .done) (a .flash .now) (sym (c .before .before .before .before .before .before .before .is-sound .ensures) ∙ not-false (c .before .before .before .before .before .before .before .is-sound .result) (c .before .before .before .before .before .before .if1 .left))
     (c .before .before .before .before .before .if2 .left) (sym (call .ensures .0) ∙ c .if3 .taken) in
-    (w .0, call .ensures .1 ∙ w .1)
+    (w .0, w .1, call .ensures .1 ∙ w .2)
 
 -- src/window.rt:25:1
 same-length-2 : tie.Need-same-length-2
@@ -60,10 +60,10 @@ same-length-2 c = search needs
 returns-4 : tie.Need-returns-4
 returns-4 c =
     let a = c .before .before .before .before .before .before .before .before .before .before .args in
-    let call = c .before .before .before .step-window in
+    let call = c .before .before .before .step-part in
     let w = finished (a .session) (a .memory .now) (a .done) (a .flash .now) (sym (c .before .before .before .before .before .before .before .is-sound .ensures) ∙ not-false (c .before .before .before .before .before .before .before .is-sound .result) (c .before .before .before .before .before .before .if1 .left))
     (c .before .before .before .before .before .if2 .left) (sym (call .ensures .0) ∙ c .if3 .left) in
-    (w .0, call .ensures .1 ∙ w .1)
+    (w .0, w .1, call .ensures .1 ∙ w .2)
 
 pub advance-spec : {M : Type 1} → statement M
 advance-spec =
@@ -72,7 +72,7 @@ advance-spec =
     is-sound-requires
     returns
     returns-2
-    step-window-requires
+    step-part-requires
     same-length
     returns-3
     same-length-2

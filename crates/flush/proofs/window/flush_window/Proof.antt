@@ -3,85 +3,45 @@ use mathlib.Core.Path.{_≡_, sym, _∙_}
 use mathlib.Core.Bool.{true}
 use native.Mathlib.Omega.{arith}
 use borrow.Author.Needs.{needs}
-use lib.ListN.{length, take, drop}
+use lib.ListN.{length}
 use Rattle.flush.specs.Window.{windowActions}
 use Rattle.flush.proofs.InWindow.{flushed-none, flushed-all}
+use borrow.Author.Tests.{not-true, not-false}
+use Rattle.session.proofs.Facts.{part-within}
 use Rattle.flush.proofs.window.flush_window.Statement.{statement}
 use Rattle.flush.proofs.window.flush_window.Tie as tie
 use Rattle.flush.proofs.window.flush_window.Reads as reads
 use Rattle.flush.proofs.window.flush_window.Lts as lts
-use Rattle.flush.proofs.marked.flush_marked.Reads as flush-marked-reads
-use Rattle.units.proofs.Blocks.bytes.Reads as bytes-reads
+use Rattle.flush.proofs.window.flush_part.Reads as flush-part-reads
+use Rattle.session.proofs.is_sound.Reads as is-sound-reads
 
--- src/window.rt:47:24
-cast-t8 : tie.Need-cast-t8
-cast-t8 c = search needs
+-- src/window.rt:48:9
+is-sound-requires : tie.Need-is-sound-requires
+is-sound-requires c κs = search needs
 
--- src/window.rt:47:17
-bytes-requires : tie.Need-bytes-requires
-bytes-requires c κs = search needs
-
--- src/window.rt:48:30
-cast-t8-2 : tie.Need-cast-t8-2
-cast-t8-2 c = search needs
-
--- src/window.rt:48:23
-bytes-requires-2 : tie.Need-bytes-requires-2
-bytes-requires-2 c κs = search needs
-
--- src/window.rt:48:15
-add-end : tie.Need-add-end
-add-end c = search needs
-
--- src/window.rt:50:9
+-- src/window.rt:49:9
 returns : tie.Need-returns
 returns c =
-    let a = c .before .before .before .before .before .before .before .args in
-    flushed-none (a .session) (a .memory .now) (a .flash .now) (omega (arith, c .before .before .before .bytes .ensures, c .before .bytes2 .ensures))
+    let a = c .before .before .before .before .args in
+    flushed-none (a .session) (a .memory .now) (a .flash .now) (sym (c .before .is-sound .ensures) ∙ not-true (c .before .is-sound .result) (c .if1 .taken))
 
--- src/window.rt:53:18
-sub-flush-marked : tie.Need-sub-flush-marked
-sub-flush-marked c = search needs
+-- src/window.rt:51:5
+flush-part-requires : tie.Need-flush-part-requires
+flush-part-requires c κs =
+    let a = c .before .before .before .before .before .args in
+    part-within (length (a .flash .now)) (length (a .memory .now)) (a .session) (sym (c .before .before .is-sound .ensures) ∙ not-false (c .before .before .is-sound .result) (c .before .if1 .left)) .0
 
--- src/window.rt:53:18
-part-flush-marked-start : tie.Need-part-flush-marked-start
-part-flush-marked-start c = search needs
-
--- src/window.rt:53:18
-part-flush-marked-end : tie.Need-part-flush-marked-end
-part-flush-marked-end c = search needs
-
--- src/window.rt:53:5
-flush-marked-requires : tie.Need-flush-marked-requires
-flush-marked-requires c κs = search needs
-
--- src/window.rt:43:1
+-- src/window.rt:44:1
 same-length : tie.Need-same-length
 same-length c = search needs
 
--- src/window.rt:43:1
+-- src/window.rt:44:1
 returns-2 : tie.Need-returns-2
 returns-2 c =
-    let a = c .before .before .before .before .before .before .before .before .before .before .before .before .args in
-    let start = c .before .before .before .before .before .before .before .before .bytes in
-    let size = c .before .before .before .before .before .before .bytes2 in
-    let call = c .before .before .flush-marked in
-    flushed-all (a .session) (a .memory .now) (a .flash .now) (call .last .0) (start .result .0) (size .result .0) (start .ensures) (size .ensures) (omega arith) (call .kept .0)
-    (call .result) (call .ensures .0) (call .ensures .1)
+    let a = c .before .before .before .before .before .before .before .before .args in
+    let w = flushed-all (a .session) (a .memory .now) (a .flash .now) (sym (c .before .before .before .before .before .is-sound .ensures) ∙ not-false (c .before .before .before .before .before .is-sound .result) (c .before .before .before .before .if1 .left)) in
+    (c .before .before .flush-part .ensures .0 ∙ w .0, c .before .before .flush-part .ensures .1 ∙ w .1)
 
 pub flush-window-spec : {M : Type 1} → statement M
 flush-window-spec =
-    tie.close
-    (tie.spec
-    cast-t8
-    bytes-requires
-    cast-t8-2
-    bytes-requires-2
-    add-end
-    returns
-    sub-flush-marked
-    part-flush-marked-start
-    part-flush-marked-end
-    flush-marked-requires
-    same-length
-    returns-2)
+    tie.close (tie.spec is-sound-requires returns flush-part-requires same-length returns-2)

@@ -1,4 +1,4 @@
--- `flush::window::step_window` meets its contract.
+-- `flush::window::step_part` meets its contract.
 use mathlib.Core.Path.{_≡_, sym, _∙_}
 use mathlib.Core.Bool.{true}
 use native.Mathlib.Omega.{arith}
@@ -6,10 +6,10 @@ use borrow.Author.Needs.{needs}
 use lib.ListN.{length, take, drop}
 use Rattle.flush.specs.Window.{windowActions}
 use Rattle.flush.proofs.InWindow.{performed}
-use Rattle.flush.proofs.window.step_window.Statement.{statement}
-use Rattle.flush.proofs.window.step_window.Tie as tie
-use Rattle.flush.proofs.window.step_window.Reads as reads
-use Rattle.flush.proofs.window.step_window.Lts as lts
+use Rattle.flush.proofs.window.step_part.Statement.{statement}
+use Rattle.flush.proofs.window.step_part.Tie as tie
+use Rattle.flush.proofs.window.step_part.Reads as reads
+use Rattle.flush.proofs.window.step_part.Lts as lts
 use Rattle.flush.proofs.marked.step_marked.Reads as step-marked-reads
 use Rattle.units.proofs.Blocks.bytes.Reads as bytes-reads
 
@@ -65,8 +65,8 @@ returns c =
           (take 1 (drop (a .done) (windowActions (a .session)))) (call .ensures .1),
     )
 
-pub step-window-spec : {M : Type 1} → statement M
-step-window-spec =
+pub step-part-spec : {M : Type 1} → statement M
+step-part-spec =
     tie.close
     (tie.spec
     cast-t9

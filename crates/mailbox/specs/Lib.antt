@@ -1,0 +1,4 @@
+pub mod Commands
+pub mod Mediator
+pub mod Refusals
+pub mod Registers
