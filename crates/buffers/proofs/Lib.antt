@@ -1,2 +1,2 @@
-pub mod Ands
+pub mod Each
 pub mod Replace

@@ -1,4 +1,4 @@
--- Bytes of buffers: a range replaced, a range read, two buffers ANDed.
+-- Bytes of buffers: a range read, a range replaced, two buffers combined.
 use Prim.Native.Nat.{ℕ, _+_}
 use mathlib.Core.List.{List, [], _∷_, _++_}
 use lib.ListN.{length, take, drop}
@@ -12,8 +12,16 @@ range at n xs = take n (drop at xs)
 abbrev pub replace : ℕ → List ℕ → List ℕ → List ℕ
 replace at ys xs = take at xs ++ (ys ++ drop (at + length ys) xs)
 
--- "the bitwise AND of old byte and window byte", byte by byte; where ys has ended, the old byte
+-- the bytes of xs, each combined with the byte of ys at its place; where ys has ended, the old byte
+abbrev pub each : (ℕ → ℕ → ℕ) → List ℕ → List ℕ → List ℕ
+each f [] ys = []
+each f (x ∷ xs) [] = x ∷ xs
+each f (x ∷ xs) (y ∷ ys) = f x y ∷ each f xs ys
+
+-- "each byte by the bitwise AND of old byte and window byte"
 abbrev pub andEach : List ℕ → List ℕ → List ℕ
-andEach [] ys = []
-andEach (x ∷ xs) [] = x ∷ xs
-andEach (x ∷ xs) (y ∷ ys) = bitAnd x y ∷ andEach xs ys
+andEach = each bitAnd
+
+-- each byte by the other: ys copied over xs
+abbrev pub copyEach : List ℕ → List ℕ → List ℕ
+copyEach = each (λ old new. new)

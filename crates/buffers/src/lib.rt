@@ -1,10 +1,10 @@
-// Bytes of lent buffers: a part filled with one value, and a part ANDed with another.
+// Bytes of lent buffers: a part filled with one value, ANDed with another, and copied over.
 //
 // Each function is one plain loop over the part that it is lent, which compiles to a call of memset
-// or to vector code. The definitions also say what it is to replace a range of a buffer.
+// or memcpy, or to vector code. The definitions also say what it is to replace a range of a buffer.
 ghost use mathlib.Core.Path.{_≡_};
 ghost use lib.ListN.{length, replicate};
-ghost use Rattle.buffers.specs.Ranges.{andEach};
+ghost use Rattle.buffers.specs.Ranges.{andEach, copyEach};
 
 // Sets every byte of the part to value.
 pub fn fill(part: &mut [u8], value: u8)
@@ -31,6 +31,22 @@ pub fn and(part: &mut [u8], other: &[u8])
         let old = part[i];
         let new = other[i];
         part[i] = old & new;
+        i += 1;
+    }
+}
+
+// Copies the bytes of other over those of the part, as far as both go.
+pub fn copy(part: &mut [u8], other: &[u8])
+    ensures { λ _. ⌜ now (part .exit) ≡ copyEach (now (part .entry)) (now (other .entry)) ⌝ }
+{
+    let end = if other.len() < part.len() {
+        other.len()
+    } else {
+        part.len()
+    };
+    let mut i = 0;
+    while i < end {
+        part[i] = other[i];
         i += 1;
     }
 }

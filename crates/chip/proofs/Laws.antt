@@ -7,7 +7,7 @@ use native.Mathlib.Omega.{arith}
 use lib.Bits.{bitAnd}
 use lib.ListN.{length, getD, replicate, length-replicate, getD-replicate}
 use Rattle.buffers.specs.Ranges.{range, replace, andEach}
-use Rattle.buffers.proofs.Ands.{length-and, and-at}
+use Rattle.buffers.proofs.Each.{each-length, each-at}
 use Rattle.buffers.proofs.Replace.{range-length, range-at, replace-length, replace-before, replace-inside, replace-after}
 use Rattle.chip.specs.Actions.{erased, programmed}
 
@@ -42,7 +42,7 @@ module _ (at n : ℕ) (flash : List ℕ) (fits : at + n ≤ length flash) where
 -- ---- a page action
 module _ (at n : ℕ) (window flash : List ℕ) (fits : at + n ≤ length flash) where
   size : length (andEach (range at n flash) (range at n window)) ≡ n
-  size = length-and (range at n flash) (range at n window) ∙ range-length at n flash fits
+  size = each-length bitAnd (range at n flash) (range at n window) ∙ range-length at n flash fits
 
   pub programmed-length : length (programmed at n window flash) ≡ length flash
   unfolding programmed
@@ -57,6 +57,6 @@ module _ (at n : ℕ) (window flash : List ℕ) (fits : at + n ≤ length flash)
   unfolding programmed
   programmed-inside w j h =
       put-inside at n (andEach (range at n flash) (range at n window)) flash size fits j h
-      ∙ and-at j (range at n flash) (range at n window) (rw (range-length at n flash fits) h) (rw (range-length at n window w) h)
+      ∙ each-at bitAnd j (range at n flash) (range at n window) (rw (range-length at n flash fits) h) (rw (range-length at n window w) h)
       ∙ ap (λ (x : ℕ). bitAnd x (getD (range at n window) j 0)) (range-at at n flash j h)
       ∙ ap (λ (x : ℕ). bitAnd (getD flash (at + j) 0) x) (range-at at n window j h)

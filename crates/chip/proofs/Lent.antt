@@ -8,12 +8,13 @@ use lib.ListN.{length, replicate, length-replicate}
 use borrow.Rule.Slice.PartMut.{putMid, midOf, mid-len}
 use borrow.Author.Tests.{le-leb, lt-leb, lt-ltb, le-ltb}
 use Rattle.buffers.specs.Ranges.{range, replace, andEach}
-use Rattle.buffers.proofs.Ands.{length-and}
+use lib.Bits.{bitAnd}
+use Rattle.buffers.proofs.Each.{each-length}
 use Rattle.buffers.proofs.Replace.{part-back}
 use Rattle.units.specs.Units.{toBytes}
 use Rattle.chip.specs.Actions.{hasBlock, erased, eraseBlock, hasPage, programmed, programPage}
 
-erased-part : (a e n : ℕ) (xs ys : List ℕ) → a + n ≡ e → e ≤ length xs → ys ≡ replicate (length (midOf a (e - a) xs)) 0xff
+pub erased-part : (a e n : ℕ) (xs ys : List ℕ) → a + n ≡ e → e ≤ length xs → ys ≡ replicate (length (midOf a (e - a) xs)) 0xff
     → putMid a (e - a) xs ys ≡ erased a n xs
 unfolding erased
 erased-part a e n xs ys h f q =
@@ -27,7 +28,7 @@ programmed-part : (a e n : ℕ) (xs ws ys : List ℕ) → a + n ≡ e → e ≤ 
     → putMid a (e - a) xs ys ≡ programmed a n ws xs
 unfolding programmed
 programmed-part a e n xs ws ys h f q =
-    part-back a e xs ys (omega arith) (ap length q ∙ length-and (midOf a (e - a) xs) (midOf a (e - a) ws) ∙ mid-len a e xs f)
+    part-back a e xs ys (omega arith) (ap length q ∙ each-length bitAnd (midOf a (e - a) xs) (midOf a (e - a) ws) ∙ mid-len a e xs f)
     ∙ ap (λ (t : List ℕ). replace a t xs) (q ∙ ap (λ (k : ℕ). andEach (range a k xs) (range a k ws)) count)
   where
     count : e - a ≡ n

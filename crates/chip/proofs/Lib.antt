@@ -1,2 +1,2 @@
-mod Lent
+pub mod Lent
 pub mod Laws

@@ -225,21 +225,24 @@ module _ (n : ℕ) (memory : List ℕ) (room : toBytes n ≤ length memory) (par
     where
       ahead-not : ahead ≡ passed → ⊥
       ahead-not e = let z : _≡_ {A = ℕ} 0 1 = cc in omega arith
+
       work-not : underWork ≡ passed → ⊥
       work-not e = let z : _≡_ {A = ℕ} 0 1 = cc in omega arith
+
       only : (actions : List Action) → progress b j actions ≡ passed → none (own b (drop j actions)) ≡ true
       only actions e =
           ⊎-elim (λ t. t)
           (λ (t : none (own b (drop j actions)) ≡ false).
-            ⊎-elim
-            (λ (u : none (own b (take 1 (drop j actions))) ≡ true). absurd (ahead-not (rw (t, u) at e)))
-            (λ (u : none (own b (take 1 (drop j actions))) ≡ false). absurd (work-not (rw (t, u) at e)))
-            (decided (none (own b (take 1 (drop j actions))))))
+          ⊎-elim
+          (λ (u : none (own b (take 1 (drop j actions))) ≡ true). absurd (ahead-not (rw (t, u) at e)))
+          (λ (u : none (own b (take 1 (drop j actions))) ≡ false). absurd (work-not (rw (t, u) at e)))
+          (decided (none (own b (take 1 (drop j actions))))))
           (decided (none (own b (drop j actions))))
+
       whole : own b (drop j (flushActions marks)) ≡ [] → own b (take j (flushActions marks)) ≡ own b (flushActions marks)
       whole e =
           sym
-          ( ap (own b) (sym (take-append-drop j (flushActions marks)))
+          (ap (own b) (sym (take-append-drop j (flushActions marks)))
           ∙ own-append b (take j (flushActions marks)) (drop j (flushActions marks))
           ∙ ap (λ (xs : List Action). own b (take j (flushActions marks)) ++ xs) e
           ∙ append-nil (own b (take j (flushActions marks))))
@@ -253,18 +256,20 @@ module _ (n : ℕ) (memory : List ℕ) (room : toBytes n ≤ length memory) (par
     where
       passed-not : passed ≡ ahead → ⊥
       passed-not e = let z : _≡_ {A = ℕ} 0 1 = cc in omega arith
+
       work-not : underWork ≡ ahead → ⊥
       work-not e = let z : _≡_ {A = ℕ} 0 1 = cc in omega arith
+
       only : (actions : List Action) → progress b j actions ≡ ahead
           → (none (own b (drop j actions)) ≡ false) × (none (own b (take 1 (drop j actions))) ≡ true)
       only actions e =
           ⊎-elim
           (λ (t : none (own b (drop j actions)) ≡ true). absurd (passed-not (rw t at e)))
           (λ (t : none (own b (drop j actions)) ≡ false).
-            ⊎-elim
-            (λ (u : none (own b (take 1 (drop j actions))) ≡ true). (t, u))
-            (λ (u : none (own b (take 1 (drop j actions))) ≡ false). absurd (work-not (rw (t, u) at e)))
-            (decided (none (own b (take 1 (drop j actions))))))
+          ⊎-elim
+          (λ (u : none (own b (take 1 (drop j actions))) ≡ true). (t, u))
+          (λ (u : none (own b (take 1 (drop j actions))) ≡ false). absurd (work-not (rw (t, u) at e)))
+          (decided (none (own b (take 1 (drop j actions))))))
           (decided (none (own b (drop j actions))))
 
 -- ---- the flush run to its end, byte by byte

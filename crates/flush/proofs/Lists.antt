@@ -148,12 +148,12 @@ marks-most [] = omega arith
 marks-most (m ∷ ms) =
     ⊎-elim
     (λ (t : eqb m 1 ≡ true).
-      let u : eqb m 2 ≡ false = ne-eqb m 2 (λ q. two (eqb-true m 1 t) q) in rw (t, u) (omega (arith, marks-most ms)))
+    let u : eqb m 2 ≡ false = ne-eqb m 2 (λ q. two (eqb-true m 1 t) q) in rw (t, u) (omega (arith, marks-most ms)))
     (λ (t : eqb m 1 ≡ false).
-      ⊎-elim
-      (λ (u : eqb m 2 ≡ true). rw (t, u) (omega (arith, marks-most ms)))
-      (λ (u : eqb m 2 ≡ false). rw (t, u) (omega (arith, marks-most ms)))
-      (decided (eqb m 2)))
+    ⊎-elim
+    (λ (u : eqb m 2 ≡ true). rw (t, u) (omega (arith, marks-most ms)))
+    (λ (u : eqb m 2 ≡ false). rw (t, u) (omega (arith, marks-most ms)))
+    (decided (eqb m 2)))
     (decided (eqb m 1))
   where
     two : m ≡ 1 → m ≡ 2 → ⊥

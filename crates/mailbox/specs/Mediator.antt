@@ -53,9 +53,18 @@ served command board s registers flash memory =
 abbrev pub refused : ℕ → Session → List ℕ → List ℕ → List ℕ → Outcome
 refused code s registers flash memory = leaving (answered s registers code [] 0) flash memory
 
+-- a create of either kind
 abbrev pub isCreate : List ℕ → Bool
 isCreate registers = eqb (commandOf registers) 4 || eqb (commandOf registers) 6
 
+-- the refusal for an argument
+abbrev pub argumentRefused : Session → List ℕ → List ℕ → List ℕ → Outcome
+argumentRefused s registers flash memory =
+    cond (isCreate registers)
+    (closing (codeFor (s .version) Argument) (numbered s registers) registers flash memory)
+    (refused (codeFor (s .version) Argument) (numbered s registers) registers flash memory)
+
+-- what is left, by the first check that refuses
 unfoldable pub answerTo : Reason → Board → Session → List ℕ → List ℕ → List ℕ → Outcome
 answerTo Accepted board s registers flash memory = served (commandOf registers) board (numbered s registers) registers flash memory
 answerTo System board s registers flash memory = refused (codeFor (s .version) System) s registers flash memory
@@ -63,10 +72,7 @@ answerTo Repeated board s registers flash memory = refused (codeFor (s .version)
 answerTo Unknown board s registers flash memory = refused (codeFor (s .version) Unknown) (numbered s registers) registers flash memory
 answerTo Suspended board s registers flash memory = refused (codeFor (s .version) Suspended) (numbered s registers) registers flash memory
 answerTo Windowless board s registers flash memory = refused (codeFor (s .version) Windowless) (numbered s registers) registers flash memory
-answerTo Argument board s registers flash memory =
-    cond (isCreate registers)
-    (closing (codeFor (s .version) Argument) (numbered s registers) registers flash memory)
-    (refused (codeFor (s .version) Argument) (numbered s registers) registers flash memory)
+answerTo Argument board s registers flash memory = argumentRefused s registers flash memory
 
 -- what a command leaves
 unfoldable pub mediate : Board → Session → List ℕ → List ℕ → List ℕ → Outcome

@@ -20,15 +20,16 @@ use registers::answer;
 use session::Previous;
 use session::Session;
 use session::Window;
+use units::Bytes;
 use windows::close_window;
 use windows::create_window;
 use windows::reset;
 ghost use mathlib.Core.Path.{_≡_};
 ghost use lib.ListN.{length};
 ghost use Rattle.mailbox.specs.declared.refusals.Reason.the-variants.{Accepted};
-ghost use Rattle.mailbox.specs.Commands.{closing, answered};
+ghost use Rattle.mailbox.specs.Commands.{answered};
 ghost use Rattle.mailbox.specs.Refusals.{reasonFor, codeFor};
-ghost use Rattle.mailbox.specs.Mediator.{numbered, served, mediate};
+ghost use Rattle.mailbox.specs.Mediator.{numbered, served, argumentRefused, mediate};
 ghost use Rattle.mailbox.specs.Registers.{commandOf};
 ghost use mathlib.Core.List.{[]};
 
@@ -66,5 +67,91 @@ pub fn command(
         Reason::Suspended => refuse_numbered(session, registers, reason),
         Reason::Windowless => refuse_numbered(session, registers, reason),
         Reason::Argument => refuse_argument(session, registers, flash, memory),
+    }
+}
+
+// Carries out a command that no check refused.
+fn serve(
+    session: Session,
+    registers: [u8; 16],
+    board: Board,
+    flash: &mut [u8],
+    memory: &mut [u8],
+) -> Answer
+    requires { ⌜ reasonFor board session registers (length (now flash)) (length (now memory)) ≡ Accepted ⌝ }
+    ensures { λ r. ⌜ (r ≡ served (commandOf registers) board (numbered session registers) registers (now (flash .entry)) (now (memory .entry)) .answer)
+        × (now (flash .exit) ≡ served (commandOf registers) board (numbered session registers) registers (now (flash .entry)) (now (memory .entry)) .flash)
+        × (now (memory .exit) ≡ served (commandOf registers) board (numbered session registers) registers (now (flash .entry)) (now (memory .entry)) .memory) ⌝ }
+{
+    let next = with_number(session, registers);
+    let code = registers[0];
+    match code {
+        1 => reset(next, registers),
+        2 => get_info(
+            next,
+            registers,
+            board,
+            Bytes(memory.len() as u64).blocks().0,
+        ),
+        3 => get_flash_info(next, registers, Bytes(flash.len() as u64).blocks().0),
+        4 => create_window(Window::Read, next, registers, board, flash, memory),
+        5 => close_window(next, registers, 1, flash, memory),
+        6 => create_window(Window::Write, next, registers, board, flash, memory),
+        7 => mark_dirty(next, registers),
+        8 => flush(next, registers, flash, memory),
+        9 => acknowledge(next, registers),
+        _ => erase(next, registers, memory),
+    }
+}
+
+// A refusal that keeps the session as it is given.
+fn refuse(session: Session, registers: [u8; 16], code: u8) -> Answer
+    ensures { λ r. ⌜ r ≡ answered session registers code [] 0 ⌝ }
+{
+    answer(session, registers, code, [0; 11], 0)
+}
+
+// A refusal that makes the number the previous one.
+fn refuse_numbered(session: Session, registers: [u8; 16], reason: Reason) -> Answer
+    ensures { λ r. ⌜ r ≡ answered (numbered session registers) registers (codeFor (session .version) reason) [] 0 ⌝ }
+{
+    refuse(
+        with_number(session, registers),
+        registers,
+        code_for(session.version, reason),
+    )
+}
+
+// A refusal for an argument: a create has closed its window already.
+fn refuse_argument(session: Session, registers: [u8; 16], flash: &mut [u8], memory: &[u8]) -> Answer
+    ensures { λ r. ⌜ (r ≡ argumentRefused session registers (now (flash .entry)) (now (memory .entry)) .answer)
+        × (now (flash .exit) ≡ argumentRefused session registers (now (flash .entry)) (now (memory .entry)) .flash) ⌝ }
+{
+    let next = with_number(session, registers);
+    let code = registers[0];
+    if code == 4 {
+        return close_window(next, registers, 2, flash, memory);
+    }
+    if code == 6 {
+        return close_window(next, registers, 2, flash, memory);
+    }
+    refuse(next, registers, 2)
+}
+
+// The session with the command's number as the previous one.
+fn with_number(session: Session, registers: [u8; 16]) -> Session
+    ensures { λ r. ⌜ r ≡ numbered session registers ⌝ }
+{
+    let window = session.window;
+    let marks = session.marks;
+    Session {
+        version: session.version,
+        previous: Previous::Number(registers[1]),
+        events: session.events,
+        suspended: session.suspended,
+        window,
+        first: session.first,
+        size: session.size,
+        marks,
     }
 }

@@ -6,10 +6,13 @@ use session::Previous;
 use session::Session;
 use session::Window;
 use session::is_sound_at;
+use units::Blocks;
 use units::Bytes;
 ghost use mathlib.Core.Path.{_≡_};
-ghost use mathlib.Core.Bool.{not};
-ghost use lib.ListN.{getD};
+ghost use mathlib.Core.Bool.{not, cond, _&&_, _||_};
+ghost use Prim.Native.Nat.{_+_, _-_, _<_, _≤_};
+ghost use lib.Dec.{eqb, leb, ltb};
+ghost use Rattle.mailbox.specs.Registers.{number};
 ghost use Rattle.mailbox.specs.Refusals.{blocksNamed, flushMarks, argumentBroken, isPrevious, repeated, known, suspendedFor, isWrite, windowless, reasonFor, codeFor};
 
 // The first check of the table that refuses a command.
@@ -74,5 +77,188 @@ pub fn code_for(version: u8, reason: Reason) -> u8
         Reason::Suspended => translated(version, 5, 6),
         Reason::Windowless => translated(version, 2, 7),
         Reason::Argument => 2,
+    }
+}
+
+// A code at versions 0 and 1, and another from version 2 on.
+fn translated(version: u8, early: u8, late: u8) -> u8
+    ensures { λ r. ⌜ r ≡ cond (ltb version 2) early late ⌝ }
+{
+    if version < 2 { early } else { late }
+}
+
+// The sequence number is the previous one, and the command is not GET_INFO.
+fn is_repeated(session: Session, registers: [u8; 16]) -> bool
+    ensures { λ r. ⌜ r ≡ repeated session registers ⌝ }
+{
+    if registers[0] == 2 {
+        return false;
+    }
+    let previous = session.previous;
+    match previous {
+        Previous::Absent => false,
+        Previous::Number(last) => registers[1] == last,
+    }
+}
+
+// The version knows the command.
+fn is_known(version: u8, command: u8) -> bool
+    ensures { λ r. ⌜ r ≡ known version command ⌝ }
+{
+    if version == 0 {
+        return known_at_first(command);
+    }
+    if command == 0 {
+        return false;
+    }
+    if version == 1 {
+        return command <= 9;
+    }
+    command <= 10
+}
+
+// RESET, GET_INFO and ACK, which need no agreed version.
+fn known_at_first(command: u8) -> bool
+    ensures { λ r. ⌜ r ≡ (eqb command 1 || (eqb command 2 || eqb command 9)) ⌝ }
+{
+    if command == 1 {
+        return true;
+    }
+    if command == 2 {
+        return true;
+    }
+    command == 9
+}
+
+// Flash access is suspended, and the command is neither GET_INFO nor ACK.
+fn is_suspended_for(suspended: bool, command: u8) -> bool
+    ensures { λ r. ⌜ r ≡ (suspended && not (eqb command 2 || eqb command 9)) ⌝ }
+{
+    if !suspended {
+        return false;
+    }
+    if command == 2 {
+        return false;
+    }
+    command != 9
+}
+
+// MARK_DIRTY, FLUSH or ERASE, and no write window is active.
+fn is_windowless(window: Window, command: u8) -> bool
+    ensures { λ r. ⌜ r ≡ ((eqb command 7 || (eqb command 8 || eqb command 10)) && not (isWrite window)) ⌝ }
+{
+    if works_on_marks(command) {
+        lacks_write(window)
+    } else {
+        false
+    }
+}
+
+fn works_on_marks(command: u8) -> bool
+    ensures { λ r. ⌜ r ≡ (eqb command 7 || (eqb command 8 || eqb command 10)) ⌝ }
+{
+    if command == 7 {
+        return true;
+    }
+    if command == 8 {
+        return true;
+    }
+    command == 10
+}
+
+fn lacks_write(window: Window) -> bool
+    ensures { λ r. ⌜ r ≡ not (isWrite window) ⌝ }
+{
+    match window {
+        Window::Closed => true,
+        Window::Read => true,
+        Window::Write => false,
+    }
+}
+
+// An argument rule of the command is broken; flash is the chip's size in blocks.
+fn breaks_a_rule(session: Session, registers: [u8; 16], flash: u32) -> bool
+    ensures { λ r. ⌜ r ≡ argumentBroken session registers flash ⌝ }
+{
+    let code = registers[0];
+    match code {
+        2 => registers[2] == 0,
+        4 | 6 => flash <= word(registers, 0) as u32,
+        7 | 10 => !blocks_named(session, registers).inside,
+        8 => flush_breaks_a_rule(session, registers),
+        _ => false,
+    }
+}
+
+fn flush_breaks_a_rule(session: Session, registers: [u8; 16]) -> bool
+    ensures { λ r. ⌜ r ≡ (flushMarks session registers && not (blocksNamed session registers .inside)) ⌝ }
+{
+    if flush_marks(session.version, registers) {
+        !blocks_named(session, registers).inside
+    } else {
+        false
+    }
+}
+
+// A FLUSH adds marks: at version 1, where its length is not 0.
+pub fn flush_marks(version: u8, registers: [u8; 16]) -> bool
+    ensures { λ r. ⌜ r ≡ (ltb version 2 && not (eqb (number 4 2 registers) 0)) ⌝ }
+{
+    if version < 2 {
+        long(registers, 2) != 0
+    } else {
+        false
+    }
+}
+
+// The window's blocks that MARK_DIRTY, ERASE, or FLUSH at version 1, names.
+pub fn blocks_named(session: Session, registers: [u8; 16]) -> BlockRange
+    ensures { λ r. ⌜ r ≡ blocksNamed session registers ⌝ }
+{
+    let named = word(registers, 0) as u32;
+    if session.version < 2 {
+        let count = Bytes(long(registers, 2) as u64).blocks();
+        flash_blocks(session.first as u32, session.size as u32, named, count)
+    } else {
+        window_blocks(
+            session.size as u32,
+            named,
+            Blocks(word(registers, 2) as u32),
+        )
+    }
+}
+
+// Version 1: blocks of the flash.
+fn flash_blocks(first: u32, size: u32, named: u32, count: Blocks) -> BlockRange
+    requires { ⌜ (first < 65536) × (size < 65536) × (named < 65536) × (count .0 ≤ 1048576) ⌝ }
+    ensures { λ r. ⌜ r ≡ record {
+      inside = leb first named && leb (named + count .0) (first + size);
+      start = named - first;
+      count = count .0;
+    } ⌝ }
+{
+    if named < first {
+        return BlockRange {
+            inside: false,
+            start: 0,
+            count: count.0,
+        };
+    }
+    BlockRange {
+        inside: named + count.0 <= first + size,
+        start: named - first,
+        count: count.0,
+    }
+}
+
+// Version 2: blocks of the window.
+fn window_blocks(size: u32, named: u32, count: Blocks) -> BlockRange
+    requires { ⌜ (named < 65536) × (count .0 < 65536) ⌝ }
+    ensures { λ r. ⌜ r ≡ record { inside = leb (named + count .0) size; start = named; count = count .0 } ⌝ }
+{
+    BlockRange {
+        inside: named + count.0 <= size,
+        start: named,
+        count: count.0,
     }
 }

@@ -7,7 +7,7 @@ use lib.Bits.{bitAnd}
 use native.Mathlib.Omega.{arith}
 use borrow.Author.Needs.{needs}
 use lib.ListN.{length, getD, set, length-set}
-use Rattle.buffers.proofs.Ands.{partWay, and-more, and-all}
+use Rattle.buffers.proofs.Each.{partWay, each-more, each-all}
 use Rattle.buffers.proofs.and.Statement.{statement}
 use Rattle.buffers.proofs.and.Tie as tie
 use Rattle.buffers.proofs.and.Reads as reads
@@ -15,7 +15,7 @@ use Rattle.buffers.proofs.and.Lts as lts
 
 abbrev Inv-loop : tie.InvT-loop
 Inv-loop part₀ other end i₀ part i =
-    (i ≤ end) × (end ≡ min (length part₀) (length other)) × (part ≡ partWay i part₀ other) × (length part ≡ length part₀)
+    (i ≤ end) × (end ≡ min (length part₀) (length other)) × (part ≡ partWay bitAnd i part₀ other) × (length part ≡ length part₀)
 
 abbrev μ-loop : tie.MeasureT-loop
 μ-loop part₀ other end i₀ part i = end - i
@@ -46,7 +46,7 @@ loop-again c =
     let inv = c .before .before .before .loop .inv in (
       omega arith,
       inv .1,
-      ap (λ (t : List ℕ). set t i (bitAnd (getD t i 0) (getD ys i 0))) (inv .2) ∙ and-more i xs ys (omega arith) (omega arith),
+      ap (λ (t : List ℕ). set t i (bitAnd (getD t i 0) (getD ys i 0))) (inv .2) ∙ each-more bitAnd i xs ys (omega arith) (omega arith),
       simp length-set (inv .3),
     )
 
@@ -56,7 +56,7 @@ same-length c = search needs
 returns : tie.Need-returns Inv-loop μ-loop
 returns c =
     c .before .loop .inv .2
-    ∙ and-all (c .before .loop .i) (c .before .before .before .args .part .now) (c .before .before .before .args .other .now)
+    ∙ each-all bitAnd (c .before .loop .i) (c .before .before .before .args .part .now) (c .before .before .before .args .other .now)
     (omega arith) (λ h. omega arith)
 
 pub and-spec : {M : Type 1} → statement M

@@ -59,10 +59,11 @@ returns c =
     let a = c .before .before .before .before .before .before .before .before .before .before .before .args in
     let start = c .before .before .before .before .before .before .before .bytes in
     let size = c .before .before .before .before .before .bytes2 in
-    let call = c .before .before .flush-marked in
-    ( call .ensures .0
-    , performed (a .session) (a .memory .now) (a .flash .now) (call .last .0) (start .result .0) (size .result .0) (start .ensures) (size .ensures) (omega arith) (call .kept .0)
-      (windowActions (a .session)) (call .ensures .1))
+    let call = c .before .before .flush-marked in (
+      call .ensures .0,
+      performed (a .session) (a .memory .now) (a .flash .now) (call .last .0) (start .result .0) (size .result .0) (start .ensures) (size .ensures) (omega arith) (call .kept .0)
+          (windowActions (a .session)) (call .ensures .1),
+    )
 
 pub flush-part-spec : {M : Type 1} → statement M
 flush-part-spec =

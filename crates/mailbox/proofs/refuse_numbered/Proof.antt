@@ -1,0 +1,28 @@
+use borrow.Author.Needs.{needs}
+use Rattle.mailbox.proofs.refuse_numbered.Statement.{statement}
+use Rattle.mailbox.proofs.refuse_numbered.Tie as tie
+use Rattle.mailbox.proofs.refuse_numbered.Reads as reads
+use Rattle.mailbox.proofs.refuse_numbered.Lts as lts
+use Rattle.mailbox.proofs.refusals.code_for.Reads as code-for-reads
+use Rattle.mailbox.proofs.refuse.Reads as refuse-reads
+use Rattle.mailbox.proofs.with_number.Reads as with-number-reads
+
+-- src/lib.rt:119:9
+with-number-requires : tie.Need-with-number-requires
+with-number-requires c κs = search needs
+
+-- src/lib.rt:121:9
+code-for-requires : tie.Need-code-for-requires
+code-for-requires c κs = search needs
+
+-- src/lib.rt:118:5
+refuse-requires : tie.Need-refuse-requires
+refuse-requires c κs = search needs
+
+-- src/lib.rt:115:1
+returns : tie.Need-returns
+returns c = ?
+
+pub refuse-numbered-spec : {M : Type 1} → statement M
+refuse-numbered-spec =
+    tie.close (tie.spec with-number-requires code-for-requires refuse-requires returns)

@@ -1,0 +1,22 @@
+use borrow.Author.Needs.{needs}
+use Rattle.mailbox.proofs.windows.reset.Statement.{statement}
+use Rattle.mailbox.proofs.windows.reset.Tie as tie
+use Rattle.mailbox.proofs.windows.reset.Reads as reads
+use Rattle.mailbox.proofs.windows.reset.Lts as lts
+use Rattle.mailbox.proofs.registers.answer.Reads as answer-reads
+use Rattle.mailbox.proofs.windows.without_window.Reads as without-window-reads
+
+-- src/windows.rt:30:12
+without-window-requires : tie.Need-without-window-requires
+without-window-requires c κs = search needs
+
+-- src/windows.rt:30:5
+answer-requires : tie.Need-answer-requires
+answer-requires c κs = search needs
+
+-- src/windows.rt:27:1
+returns : tie.Need-returns
+returns c = ?
+
+pub reset-spec : {M : Type 1} → statement M
+reset-spec = tie.close (tie.spec without-window-requires answer-requires returns)

@@ -1,0 +1,197 @@
+// RESET, CREATE_READ_WINDOW, CREATE_WRITE_WINDOW and CLOSE_WINDOW.
+use crate::Answer;
+use crate::Board;
+use crate::registers::answer;
+use crate::registers::word;
+use buffers::copy;
+use flush::flush_window;
+use session::Session;
+use session::Window;
+use units::Blocks;
+use units::Bytes;
+ghost use mathlib.Core.Path.{_≡_};
+ghost use Prim.Native.Nat.{_+_, _-_, _≤_, _<_, min};
+ghost use mathlib.Core.Bool.{cond};
+ghost use lib.Dec.{ltb};
+ghost use lib.ListN.{length};
+ghost use Rattle.buffers.specs.Ranges.{range, replace};
+ghost use Rattle.units.specs.Units.{toBytes, roundUp};
+ghost use Rattle.session.specs.Record.{dropWindow};
+ghost use Rattle.mailbox.specs.Registers.{number};
+ghost use Rattle.mailbox.specs.Commands.{answered, resetAnswer, closing, withWindow, sizeFor, createArguments, opened, created};
+
+// No argument.
+const NONE: [u8; 11] = [0; 11];
+
+// The window and its marks are dropped, without a flush.
+pub fn reset(session: Session, registers: [u8; 16]) -> Answer
+    ensures { λ r. ⌜ r ≡ resetAnswer session registers ⌝ }
+{
+    answer(without_window(session), registers, 1, NONE, 0)
+}
+
+// The window is flushed and dropped; the code is that of the answer.
+pub fn close_window(
+    session: Session,
+    registers: [u8; 16],
+    code: u8,
+    flash: &mut [u8],
+    memory: &[u8],
+) -> Answer
+    ensures { λ r. ⌜ (r ≡ closing code session registers (now (flash .entry)) (now (memory .entry)) .answer)
+        × (now (flash .exit) ≡ closing code session registers (now (flash .entry)) (now (memory .entry)) .flash) ⌝ }
+{
+    let actions = flush_window(session, flash, memory);
+    answer(without_window(session), registers, code, NONE, actions)
+}
+
+// The active window is closed, and a new one is opened at a block of the flash.
+pub fn create_window(
+    window: Window,
+    session: Session,
+    registers: [u8; 16],
+    board: Board,
+    flash: &mut [u8],
+    memory: &mut [u8],
+) -> Answer
+    requires { ⌜ number 2 0 registers < roundUp (length (now flash)) ⌝ }
+    requires { ⌜ (toBytes (roundUp (length (now flash))) ≡ length (now flash)) × (roundUp (length (now flash)) ≤ 65535) ⌝ }
+    requires { ⌜ (toBytes (roundUp (length (now memory))) ≡ length (now memory)) × (roundUp (length (now memory)) ≤ 64) ⌝ }
+    ensures { λ r. ⌜ (r ≡ created window board session registers (now (flash .entry)) (now (memory .entry)) .answer)
+        × (now (flash .exit) ≡ created window board session registers (now (flash .entry)) (now (memory .entry)) .flash)
+        × (now (memory .exit) ≡ created window board session registers (now (flash .entry)) (now (memory .entry)) .memory) ⌝ }
+{
+    let first = word(registers, 0);
+    let size = window_size(
+        flash.len(),
+        memory.len(),
+        first,
+        hinted(session.version, registers),
+    );
+    open_window(
+        window,
+        first,
+        size,
+        session,
+        registers,
+        board,
+        flash,
+        memory,
+    )
+}
+
+// The hint, which only version 2 has.
+fn hinted(version: u8, registers: [u8; 16]) -> u16
+    ensures { λ r. ⌜ r ≡ cond (ltb version 2) 0 (number 2 2 registers) ⌝ }
+{
+    if version < 2 { 0 } else { word(registers, 2) }
+}
+
+fn least(a: u32, b: u32) -> u32
+    ensures { λ r. ⌜ r ≡ min a b ⌝ }
+{
+    if a < b { a } else { b }
+}
+
+// The size of a window at a block, from the lengths of both buffers and the hint.
+fn window_size(flash: usize, memory: usize, first: u16, hint: u16) -> u16
+    requires { ⌜ (first < roundUp flash) × (roundUp flash ≤ 65535) × (roundUp memory ≤ 64) ⌝ }
+    ensures { λ r. ⌜ r ≡ sizeFor (roundUp flash) (roundUp memory) first hint ⌝ }
+{
+    let flash_blocks = Bytes(flash as u64).blocks().0;
+    let memory_blocks = Bytes(memory as u64).blocks().0;
+    let most = least(memory_blocks, flash_blocks - first as u32);
+    if hint == 0 {
+        return most as u16;
+    }
+    least(most, hint as u32) as u16
+}
+
+// The active window is flushed, and the blocks of the new one are copied to the front of the memory.
+fn open_window(
+    window: Window,
+    first: u16,
+    size: u16,
+    session: Session,
+    registers: [u8; 16],
+    board: Board,
+    flash: &mut [u8],
+    memory: &mut [u8],
+) -> Answer
+    requires { ⌜ toBytes first + toBytes size ≤ length (now flash) ⌝ }
+    requires { ⌜ toBytes size ≤ length (now memory) ⌝ }
+    ensures { λ r. ⌜ (r ≡ opened window first size board session registers (now (flash .entry)) (now (memory .entry)) .answer)
+        × (now (flash .exit) ≡ opened window first size board session registers (now (flash .entry)) (now (memory .entry)) .flash)
+        × (now (memory .exit) ≡ opened window first size board session registers (now (flash .entry)) (now (memory .entry)) .memory) ⌝ }
+{
+    let actions = flush_window(session, flash, memory);
+    copy_blocks(flash, memory, first, size);
+    open_answer(
+        with_window(window, first, size, session),
+        registers,
+        board.lpc,
+        actions,
+    )
+}
+
+// The blocks of the flash go to the front of the memory.
+fn copy_blocks(flash: &[u8], memory: &mut [u8], first: u16, size: u16)
+    requires { ⌜ toBytes first + toBytes size ≤ length (now flash) ⌝ }
+    requires { ⌜ toBytes size ≤ length (now memory) ⌝ }
+    ensures { λ _. ⌜ now (memory .exit) ≡ replace 0 (range (toBytes first) (toBytes size) (now (flash .entry))) (now (memory .entry)) ⌝ }
+{
+    let start = Blocks(first as u32).bytes().0 as usize;
+    let bytes = Blocks(size as u32).bytes().0 as usize;
+    let end = start + bytes;
+    copy(&mut memory[0..bytes], &flash[start..end]);
+}
+
+fn with_window(window: Window, first: u16, size: u16, session: Session) -> Session
+    ensures { λ r. ⌜ r ≡ withWindow window first size session ⌝ }
+{
+    let previous = session.previous;
+    Session {
+        version: session.version,
+        previous,
+        events: session.events,
+        suspended: session.suspended,
+        window,
+        first,
+        size,
+        marks: [0; 64],
+    }
+}
+
+fn without_window(session: Session) -> Session
+    ensures { λ r. ⌜ r ≡ dropWindow session ⌝ }
+{
+    with_window(Window::Closed, 0, 0, session)
+}
+
+// The answer to a create, from the session with the new window.
+fn open_answer(session: Session, registers: [u8; 16], lpc: u16, actions: u32) -> Answer
+    ensures { λ r. ⌜ r ≡ answered session registers 1 (createArguments (session .version) lpc (session .size) (session .first)) actions ⌝ }
+{
+    let b0 = (lpc % 256) as u8;
+    let b1 = (lpc / 256 % 256) as u8;
+    if session.version < 2 {
+        return answer(
+            session,
+            registers,
+            1,
+            [b0, b1, 0, 0, 0, 0, 0, 0, 0, 0, 0],
+            actions,
+        );
+    }
+    let s0 = (session.size % 256) as u8;
+    let s1 = (session.size / 256 % 256) as u8;
+    let f0 = (session.first % 256) as u8;
+    let f1 = (session.first / 256 % 256) as u8;
+    answer(
+        session,
+        registers,
+        1,
+        [b0, b1, s0, s1, f0, f1, 0, 0, 0, 0, 0],
+        actions,
+    )
+}
