@@ -3,8 +3,8 @@ use mathlib.Core.Path.{_≡_, refl, sym, ap, _∙_, subst}
 use mathlib.Core.List.{List, [], _∷_, _++_, append-assoc}
 use Prim.Native.Nat.{ℕ, zero, suc, _+_, _-_, _≤_, _<_}
 use native.Mathlib.Omega.{arith}
-use lib.ListN.{length, getD, take, drop, length-append, length-drop, List·getD-append}
-use lib.Seq.{drop-drop, length-take-le, getD-append-add, getD-take, getD-drop}
+use lib.ListN.{length, getD, take, drop, take-append-drop, length-append, length-drop, List·getD-append}
+use lib.Seq.{drop-drop, length-take-le, take-at, drop-at, drop-append-add, getD-append-add, getD-take, getD-drop}
 use borrow.Rule.Slice.PartMut.{putMid, midOf}
 use Rattle.buffers.specs.Ranges.{replace, range}
 
@@ -53,3 +53,30 @@ module _ (at : ℕ) (ys xs : List ℕ) (fits : at + length ys ≤ length xs) whe
 
       join : (i : ℕ) → at + length ys ≤ i → at + length ys + (i - (at + length ys)) ≡ i
       join i h = omega arith
+
+-- ---- a range that is read after it was replaced, put back, or replaced again
+pub replace-same : (at n : ℕ) (xs : List ℕ) → at + n ≤ length xs → replace at (range at n xs) xs ≡ xs
+replace-same at n xs h =
+    ap (λ (k : ℕ). take at xs ++ (range at n xs ++ drop (at + k) xs)) (range-length at n xs h)
+    ∙ ap (λ (t : List ℕ). take at xs ++ (range at n xs ++ t)) (sym (drop-drop n at xs))
+    ∙ ap (λ (t : List ℕ). take at xs ++ t) (take-append-drop n (drop at xs))
+    ∙ take-append-drop at xs
+
+module _ (at : ℕ) (ys xs : List ℕ) (fits : at + length ys ≤ length xs) where
+  pub range-replace : range at (length ys) (replace at ys xs) ≡ ys
+  range-replace =
+      ap (take (length ys)) (drop-at (take at xs) (ys ++ drop (at + length ys) xs) at (length-take-le at xs (omega arith)))
+      ∙ take-at ys (drop (at + length ys) xs) (length ys) refl
+
+  pub replace-again : (zs : List ℕ) → length zs ≡ length ys → replace at zs (replace at ys xs) ≡ replace at zs xs
+  replace-again zs e =
+      ap (λ (t : List ℕ). t ++ (zs ++ drop (at + length zs) (replace at ys xs)))
+        (take-at (take at xs) (ys ++ drop (at + length ys) xs) at (length-take-le at xs (omega arith)))
+      ∙ ap (λ (t : List ℕ). take at xs ++ (zs ++ t)) after
+    where
+      after : drop (at + length zs) (replace at ys xs) ≡ drop (at + length zs) xs
+      after =
+          ap (λ (k : ℕ). drop (k + length zs) (replace at ys xs)) (sym (length-take-le at xs (omega arith)))
+          ∙ drop-append-add (take at xs) (ys ++ drop (at + length ys) xs) (length zs)
+          ∙ drop-at ys (drop (at + length ys) xs) (length zs) (sym e)
+          ∙ ap (λ (k : ℕ). drop (at + k) xs) (sym e)

@@ -22,7 +22,7 @@ use Rattle.flush.proofs.Lists.{by-mark, perform-none}
 use Rattle.flush.proofs.Bytes.{byteAfter, bytesAfter, bytes-append, In, AllIn, performed-length, performed-byte}
 
 -- ---- every action of sound marks lies in the window
-all-append : (n : ℕ) (xs ys : List Action) → AllIn n xs → AllIn n ys → AllIn n (xs ++ ys)
+pub all-append : (n : ℕ) (xs ys : List Action) → AllIn n xs → AllIn n ys → AllIn n (xs ++ ys)
 all-append n [] ys p q = q
 all-append n (x ∷ xs) ys p q = (p .0, all-append n xs ys (p .1) q)
 
