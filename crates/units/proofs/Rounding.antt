@@ -31,3 +31,7 @@ exact w n v h =
     let few : roundUp n ≤ 2 ^ w = blocks-width w n h in
     let less : 2 ^ w ≤ 2 ^ 31 = pow-mono {i = w} {j = 31} (omega arith) in
     omega arith
+
+-- as long as a flash may be, the conversion is the rounding itself
+pub exact-few : (n : ℕ) → roundUp n ≤ 65535 → toBlocks n ≡ roundUp n
+exact-few n h = omega arith

@@ -1,4 +1,14 @@
+-- `mailbox::refuse_argument` meets its contract.
+use mathlib.Core.Path.{_≡_, refl, sym, ap, _∙_}
+use mathlib.Core.List.{List, []}
+use Prim.Native.Nat.{ℕ, _+_, _-_}
+use native.Mathlib.Omega.{arith}
 use borrow.Author.Needs.{needs}
+use borrow.Author.Tests.{lt-ltb, le-ltb, le-leb, lt-leb, eq-eqb, ne-eqb}
+use lib.ListN.{length, replicate}
+use Rattle.session.specs.declared.Session.{Session}
+use Rattle.mailbox.specs.Registers.{commandOf}
+use Rattle.mailbox.specs.Commands.{Outcome, answered, closing}
 use Rattle.mailbox.proofs.refuse_argument.Statement.{statement}
 use Rattle.mailbox.proofs.refuse_argument.Tie as tie
 use Rattle.mailbox.proofs.refuse_argument.Reads as reads
@@ -25,7 +35,12 @@ same-length c = search needs
 
 -- src/lib.rt:133:9
 returns : tie.Need-returns
-returns c = ?
+returns c =
+    let a = c .before .before .before .before .before .before .before .before .args in
+    let call = c .before .before .close-window in
+    let e = ap (λ (s : Session). closing 2 s (a .t2) (a .flash .now) (a .memory .now)) (c .before .before .before .before .before .with-number .ensures) in
+    rw (eq-eqb (commandOf (a .t2)) 4 (c .before .before .before .before .if1 .taken))
+    (call .ensures .0 ∙ ap (λ (r : Outcome). r .answer) e, call .ensures .1 ∙ ap (λ (r : Outcome). r .flash) e)
 
 -- src/lib.rt:136:9
 close-window-requires-2 : tie.Need-close-window-requires-2
@@ -37,7 +52,12 @@ same-length-2 c = search needs
 
 -- src/lib.rt:136:9
 returns-2 : tie.Need-returns-2
-returns-2 c = ?
+returns-2 c =
+    let a = c .before .before .before .before .before .before .before .before .before .args in
+    let call = c .before .before .close-window2 in
+    let e = ap (λ (s : Session). closing 2 s (a .t2) (a .flash .now) (a .memory .now)) (c .before .before .before .before .before .before .with-number .ensures) in
+    rw (ne-eqb (commandOf (a .t2)) 4 (c .before .before .before .before .before .if1 .left), eq-eqb (commandOf (a .t2)) 6 (c .before .before .before .before .if2 .taken))
+    (call .ensures .0 ∙ ap (λ (r : Outcome). r .answer) e, call .ensures .1 ∙ ap (λ (r : Outcome). r .flash) e)
 
 -- src/lib.rt:138:5
 refuse-requires : tie.Need-refuse-requires
@@ -45,7 +65,10 @@ refuse-requires c κs = search needs
 
 -- src/lib.rt:126:1
 returns-3 : tie.Need-returns-3
-returns-3 c = ?
+returns-3 c =
+    let a = c .before .before .before .before .before .before .args in
+    rw (ne-eqb (commandOf (a .t2)) 4 (c .before .before .if1 .left), ne-eqb (commandOf (a .t2)) 6 (c .before .if2 .left))
+    (c .refuse .ensures ∙ ap (λ (s : Session). answered s (a .t2) 2 [] 0) (c .before .before .before .with-number .ensures), refl)
 
 pub refuse-argument-spec : {M : Type 1} → statement M
 refuse-argument-spec =

@@ -1,4 +1,14 @@
+-- `mailbox::refuse_numbered` meets its contract.
+use mathlib.Core.Path.{_≡_, refl, sym, ap, _∙_}
+use mathlib.Core.List.{List, []}
+use Prim.Native.Nat.{ℕ, _+_, _-_}
+use native.Mathlib.Omega.{arith}
 use borrow.Author.Needs.{needs}
+use borrow.Author.Tests.{lt-ltb, le-ltb, le-leb, lt-leb, eq-eqb, ne-eqb}
+use lib.ListN.{length, replicate}
+use Rattle.session.specs.declared.Session.{Session}
+use Rattle.mailbox.specs.Commands.{answered}
+use Rattle.mailbox.specs.Mediator.{numbered}
 use Rattle.mailbox.proofs.refuse_numbered.Statement.{statement}
 use Rattle.mailbox.proofs.refuse_numbered.Tie as tie
 use Rattle.mailbox.proofs.refuse_numbered.Reads as reads
@@ -21,7 +31,11 @@ refuse-requires c κs = search needs
 
 -- src/lib.rt:115:1
 returns : tie.Need-returns
-returns c = ?
+returns c =
+    let a = c .before .before .before .args in
+    c .refuse .ensures
+    ∙ ap (λ (s : Session). answered s (a .registers) (c .before .code-for .result) [] 0) (c .before .before .with-number .ensures)
+    ∙ ap (λ (code : ℕ). answered (numbered (a .session) (a .registers)) (a .registers) code [] 0) (c .before .code-for .ensures)
 
 pub refuse-numbered-spec : {M : Type 1} → statement M
 refuse-numbered-spec =

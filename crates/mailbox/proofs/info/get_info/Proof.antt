@@ -1,53 +1,52 @@
+-- `mailbox::info::get_info` meets its contract.
+use mathlib.Core.Path.{_≡_}
+use Prim.Native.Nat.{min}
+use native.Mathlib.Omega.{arith}
 use borrow.Author.Needs.{needs}
+use borrow.Author.Tests.{lt-ltb}
+use lib.ListN.{getD}
 use Rattle.mailbox.proofs.info.get_info.Statement.{statement}
 use Rattle.mailbox.proofs.info.get_info.Tie as tie
-use Rattle.mailbox.proofs.info.get_info.Reads as reads
-use Rattle.mailbox.proofs.info.get_info.Lts as lts
-use Rattle.mailbox.proofs.registers.answer.Reads as answer-reads
 
--- src/info.rt:16:8
 array-read-if1 : tie.Need-array-read-if1
 array-read-if1 c = search needs
 
--- src/info.rt:17:24
 array-read-next : tie.Need-array-read-next
 array-read-next c = search needs
 
--- src/info.rt:18:19
 cast-low : tie.Need-cast-low
 cast-low c = search needs
 
--- src/info.rt:19:20
 cast-high : tie.Need-cast-high
 cast-high c = search needs
 
--- src/info.rt:24:14
 array-read-t17 : tie.Need-array-read-t17
 array-read-t17 c = search needs
 
--- src/info.rt:20:9
 answer-requires : tie.Need-answer-requires
 answer-requires c κs = search needs
 
--- src/info.rt:20:9
 returns : tie.Need-returns
-returns c = ?
+returns c =
+    let s = c .before in
+    let v = getD (s .before .args .t2) 2 0 in
+    let m : min v 2 ≡ v = omega arith in
+    rw (m, lt-ltb v 2 (s .if1 .taken)) (c .answer .ensures)
 
--- src/info.rt:29:15
 cast-low-2 : tie.Need-cast-low-2
 cast-low-2 c = search needs
 
--- src/info.rt:30:16
 cast-high-2 : tie.Need-cast-high-2
 cast-high-2 c = search needs
 
--- src/info.rt:31:5
 answer-requires-2 : tie.Need-answer-requires-2
 answer-requires-2 c κs = search needs
 
--- src/info.rt:12:1
 returns-2 : tie.Need-returns-2
-returns-2 c = ?
+returns-2 c =
+    let s = c .before .before .before in
+    let m : min (getD (s .before .args .t2) 2 0) 2 ≡ 2 = omega arith in
+    rw m (c .answer2 .ensures)
 
 pub get-info-spec : {M : Type 1} → statement M
 get-info-spec =

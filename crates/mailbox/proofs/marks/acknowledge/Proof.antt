@@ -1,23 +1,21 @@
+-- `mailbox::marks::acknowledge` meets its contract.
+use native.Mathlib.Omega.{arith}
 use borrow.Author.Needs.{needs}
+use lib.ListN.{getD}
+use mir.Syntax.{w8}
+use mir.Val.{Fits}
 use Rattle.mailbox.proofs.marks.acknowledge.Statement.{statement}
 use Rattle.mailbox.proofs.marks.acknowledge.Tie as tie
-use Rattle.mailbox.proofs.marks.acknowledge.Reads as reads
-use Rattle.mailbox.proofs.marks.acknowledge.Lts as lts
-use Rattle.mailbox.proofs.registers.answer.Reads as answer-reads
 
--- src/marks.rt:89:44
 array-read-next : tie.Need-array-read-next
 array-read-next c = search needs
 
--- src/marks.rt:89:37
 sub-next : tie.Need-sub-next
-sub-next c = ?
+sub-next c = let h : Fits w8 (getD (c .args .t2) 2 0) = search needs in omega arith
 
--- src/marks.rt:90:5
 answer-requires : tie.Need-answer-requires
 answer-requires c κs = search needs
 
--- src/marks.rt:85:1
 returns : tie.Need-returns
 returns c = search needs
 

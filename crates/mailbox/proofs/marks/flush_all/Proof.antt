@@ -1,26 +1,27 @@
+-- `mailbox::marks::flush_all` meets its contract.
+use mathlib.Core.Path.{ap, _∙_}
+use mathlib.Core.List.{[]}
+use Prim.Native.Nat.{ℕ}
 use borrow.Author.Needs.{needs}
+use Rattle.session.specs.Record.{clean}
+use Rattle.mailbox.specs.Commands.{answered, withMarks}
 use Rattle.mailbox.proofs.marks.flush_all.Statement.{statement}
 use Rattle.mailbox.proofs.marks.flush_all.Tie as tie
-use Rattle.mailbox.proofs.marks.flush_all.Reads as reads
-use Rattle.mailbox.proofs.marks.flush_all.Lts as lts
-use Rattle.flush.proofs.flush_window.Reads as flush-window-reads
-use Rattle.mailbox.proofs.registers.answer.Reads as answer-reads
 
--- src/marks.rt:78:9
 flush-window-requires : tie.Need-flush-window-requires
 flush-window-requires c κs = search needs
 
--- src/marks.rt:81:5
 answer-requires : tie.Need-answer-requires
 answer-requires c κs = search needs
 
--- src/marks.rt:74:1
 same-length : tie.Need-same-length
 same-length c = search needs
 
--- src/marks.rt:74:1
 returns : tie.Need-returns
-returns c = ?
+returns c =
+    let f = c .before .before .before .before .flush-window in
+    let a = c .before .before .before .before .before .before .before .before .args in
+    (c .answer .ensures ∙ ap (λ (n : ℕ). answered (withMarks clean (a .session)) (a .registers) 1 [] n) (f .ensures .0), f .ensures .1)
 
 pub flush-all-spec : {M : Type 1} → statement M
 flush-all-spec = tie.close (tie.spec flush-window-requires answer-requires same-length returns)

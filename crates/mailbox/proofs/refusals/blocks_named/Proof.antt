@@ -1,69 +1,71 @@
+-- `mailbox::refusals::blocks_named` meets its contract.
+use mathlib.Core.Path.{_≡_, ap, _∙_}
+use Prim.Native.Nat.{ℕ}
+use native.Mathlib.Omega.{arith}
+use borrow.Author.Tests.{lt-ltb, le-ltb}
+use Rattle.units.specs.Units.{roundUp}
+use Rattle.mailbox.specs.Registers.{number}
+use Rattle.mailbox.proofs.Checks.{inFlash, inWindow}
 use borrow.Author.Needs.{needs}
 use Rattle.mailbox.proofs.refusals.blocks_named.Statement.{statement}
 use Rattle.mailbox.proofs.refusals.blocks_named.Tie as tie
-use Rattle.mailbox.proofs.refusals.blocks_named.Reads as reads
-use Rattle.mailbox.proofs.refusals.blocks_named.Lts as lts
-use Rattle.mailbox.proofs.refusals.flash_blocks.Reads as flash-blocks-reads
-use Rattle.mailbox.proofs.refusals.window_blocks.Reads as window-blocks-reads
-use Rattle.mailbox.proofs.registers.long.Reads as long-reads
-use Rattle.mailbox.proofs.registers.word.Reads as word-reads
-use Rattle.units.proofs.Bytes.blocks.Reads as blocks-reads
 
--- src/refusals.rt:218:17
 word-requires : tie.Need-word-requires
 word-requires c κs = search needs
 
--- src/refusals.rt:218:17
 cast-named : tie.Need-cast-named
 cast-named c = search needs
 
--- src/refusals.rt:220:27
 long-requires : tie.Need-long-requires
 long-requires c κs = search needs
 
--- src/refusals.rt:220:27
 cast-t9 : tie.Need-cast-t9
 cast-t9 c = search needs
 
--- src/refusals.rt:220:13
 blocks-requires : tie.Need-blocks-requires
 blocks-requires c κs = search needs
 
--- src/refusals.rt:221:22
 cast-flash-blocks : tie.Need-cast-flash-blocks
 cast-flash-blocks c = search needs
 
--- src/refusals.rt:221:44
 cast-flash-blocks-2 : tie.Need-cast-flash-blocks-2
 cast-flash-blocks-2 c = search needs
 
--- src/refusals.rt:221:9
 flash-blocks-requires : tie.Need-flash-blocks-requires
 flash-blocks-requires c κs = search needs
 
--- src/refusals.rt:224:13
 cast-window-blocks : tie.Need-cast-window-blocks
 cast-window-blocks c = search needs
 
--- src/refusals.rt:226:20
 word-requires-2 : tie.Need-word-requires-2
 word-requires-2 c κs = search needs
 
--- src/refusals.rt:226:20
 cast-t14 : tie.Need-cast-t14
 cast-t14 c = search needs
 
--- src/refusals.rt:223:9
 window-blocks-requires : tie.Need-window-blocks-requires
 window-blocks-requires c κs = search needs
 
--- src/refusals.rt:215:1
 returns : tie.Need-returns
-returns c = ?
+returns c =
+    let a = c .before .before .before .before .before .before .before .before .args in
+    let long = c .before .before .before .before .long in
+    let word = c .before .before .before .before .before .before .before .word in
+    let count = c .before .before .before .blocks2 .result .0 in
+    let rounded : count ≡ roundUp (long .result) = omega arith in
+    rw (lt-ltb (a .session .version) 2 (c .before .before .before .before .before .if1 .taken))
+    (c .flash-blocks .ensures
+    ∙ ap (λ (n : ℕ). inFlash (a .session) n count) (word .ensures)
+    ∙ ap (λ (k : ℕ). inFlash (a .session) (number 2 0 (a .registers)) k) (rounded ∙ ap roundUp (long .ensures)))
 
--- src/refusals.rt:215:1
 returns-2 : tie.Need-returns-2
-returns-2 c = ?
+returns-2 c =
+    let a = c .before .before .before .before .before .before .args in
+    let named = c .before .before .before .before .before .word in
+    rw (le-ltb (a .session .version) 2 (c .before .before .before .if1 .left))
+    (c .window-blocks .ensures
+    ∙ ap (λ (n : ℕ). inWindow (a .session) n (c .before .word2 .result)) (named .ensures)
+    ∙ ap (λ (k : ℕ). inWindow (a .session) (number 2 0 (a .registers)) k) (c .before .word2 .ensures))
 
 pub blocks-named-spec : {M : Type 1} → statement M
 blocks-named-spec =

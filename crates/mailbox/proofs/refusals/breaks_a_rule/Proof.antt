@@ -1,55 +1,62 @@
+-- `mailbox::refusals::breaks_a_rule` meets its contract.
+use mathlib.Core.Path.{ap}
+use mathlib.Core.Bool.{not}
+use mathlib.Core.Logic.{inl, inr, ⊎-elim}
+use Prim.Native.Nat.{ℕ}
+use lib.Dec.{leb}
+use lib.ListN.{getD}
+use borrow.Author.Tests.{ne-eqb}
+use Rattle.mailbox.specs.declared.refusals.BlockRange.{BlockRange}
 use borrow.Author.Needs.{needs}
 use Rattle.mailbox.proofs.refusals.breaks_a_rule.Statement.{statement}
 use Rattle.mailbox.proofs.refusals.breaks_a_rule.Tie as tie
-use Rattle.mailbox.proofs.refusals.breaks_a_rule.Reads as reads
-use Rattle.mailbox.proofs.refusals.breaks_a_rule.Lts as lts
-use Rattle.mailbox.proofs.refusals.blocks_named.Reads as blocks-named-reads
-use Rattle.mailbox.proofs.refusals.flush_breaks_a_rule.Reads as flush-breaks-a-rule-reads
-use Rattle.mailbox.proofs.registers.word.Reads as word-reads
 
--- src/refusals.rt:183:16
 array-read-code : tie.Need-array-read-code
 array-read-code c = search needs
 
--- src/refusals.rt:185:14
 array-read-result : tie.Need-array-read-result
 array-read-result c = search needs
 
--- src/refusals.rt:186:27
 word-requires : tie.Need-word-requires
 word-requires c κs = search needs
 
--- src/refusals.rt:186:27
 cast-result : tie.Need-cast-result
 cast-result c = search needs
 
--- src/refusals.rt:187:20
 blocks-named-requires : tie.Need-blocks-named-requires
 blocks-named-requires c κs = search needs
 
--- src/refusals.rt:188:14
 flush-breaks-a-rule-requires : tie.Need-flush-breaks-a-rule-requires
 flush-breaks-a-rule-requires c κs = search needs
 
--- src/refusals.rt:180:1
 returns : tie.Need-returns
-returns c = ?
+returns c = rw (c .match .keys1)
 
--- src/refusals.rt:180:1
 returns-2 : tie.Need-returns-2
-returns-2 c = ?
+returns-2 c =
+    let named = ap (λ (n : ℕ). leb (c .before .before .args .flash) n) (c .word .ensures) in
+    ⊎-elim (λ e. rw e named) (λ e. rw e named) (c .before .match .keys2)
 
--- src/refusals.rt:180:1
 returns-3 : tie.Need-returns-3
-returns-3 c = ?
+returns-3 c =
+    let named = ap (λ (b : BlockRange). not (b .inside)) (c .before .blocks-named .ensures) in
+    ⊎-elim (λ e. rw e named) (λ e. rw e named) (c .before .before .match .keys3)
 
--- src/refusals.rt:180:1
 returns-4 : tie.Need-returns-4
-returns-4 c = ?
+returns-4 c = rw (c .before .match .keys4) (c .flush-breaks-a-rule .ensures)
 
--- src/refusals.rt:180:1
 returns-5 : tie.Need-returns-5
-returns-5 c = ?
+returns-5 c =
+    let command = getD (c .before .args .t2) 0 0 in
+    let r = c .match .rest in
+    rw (
+      ne-eqb command 2 (r .0 .0 .0 .1),
+      ne-eqb command 4 (λ e. r .0 .0 .1 (inl e)),
+      ne-eqb command 6 (λ e. r .0 .0 .1 (inr e)),
+      ne-eqb command 7 (λ e. r .0 .1 (inl e)),
+      ne-eqb command 10 (λ e. r .0 .1 (inr e)),
+      ne-eqb command 8 (r .1),
+    )
 
 pub breaks-a-rule-spec : {M : Type 1} → statement M
 breaks-a-rule-spec =

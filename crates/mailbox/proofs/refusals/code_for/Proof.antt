@@ -1,75 +1,56 @@
+-- `mailbox::refusals::code_for` meets its contract.
 use borrow.Author.Needs.{needs}
 use Rattle.mailbox.proofs.refusals.code_for.Statement.{statement}
 use Rattle.mailbox.proofs.refusals.code_for.Tie as tie
-use Rattle.mailbox.proofs.refusals.code_for.Reads as reads
-use Rattle.mailbox.proofs.refusals.code_for.Lts as lts
-use Rattle.mailbox.proofs.refusals.translated.Reads as translated-reads
 
--- src/refusals.rt:73:29
 enum-told : tie.Need-enum-told
 enum-told c = search needs
 
--- src/refusals.rt:74:27
 enum-told-2 : tie.Need-enum-told-2
 enum-told-2 c = search needs
 
--- src/refusals.rt:75:29
 enum-told-3 : tie.Need-enum-told-3
 enum-told-3 c = search needs
 
--- src/refusals.rt:75:29
 translated-requires : tie.Need-translated-requires
 translated-requires c κs = search needs
 
--- src/refusals.rt:76:28
 enum-told-4 : tie.Need-enum-told-4
 enum-told-4 c = search needs
 
--- src/refusals.rt:77:30
 enum-told-5 : tie.Need-enum-told-5
 enum-told-5 c = search needs
 
--- src/refusals.rt:77:30
 translated-requires-2 : tie.Need-translated-requires-2
 translated-requires-2 c κs = search needs
 
--- src/refusals.rt:78:31
 enum-told-6 : tie.Need-enum-told-6
 enum-told-6 c = search needs
 
--- src/refusals.rt:78:31
 translated-requires-3 : tie.Need-translated-requires-3
 translated-requires-3 c κs = search needs
 
--- src/refusals.rt:79:29
 enum-told-7 : tie.Need-enum-told-7
 enum-told-7 c = search needs
 
--- src/refusals.rt:69:1
 returns : tie.Need-returns
 returns c = search needs
 
--- src/refusals.rt:69:1
 returns-2 : tie.Need-returns-2
 returns-2 c = search needs
 
--- src/refusals.rt:69:1
 returns-3 : tie.Need-returns-3
-returns-3 c = ?
+returns-3 c = rw (c .before .enum-told3 .given .1) (c .translated .ensures)
 
--- src/refusals.rt:69:1
 returns-4 : tie.Need-returns-4
 returns-4 c = search needs
 
--- src/refusals.rt:69:1
 returns-5 : tie.Need-returns-5
-returns-5 c = ?
+returns-5 c = rw (c .before .enum-told5 .given .1) (c .translated2 .ensures)
 
--- src/refusals.rt:69:1
 returns-6 : tie.Need-returns-6
-returns-6 c = ?
+returns-6 c = rw (c .before .enum-told6 .given .1) (c .translated3 .ensures)
 
--- src/refusals.rt:69:1
 returns-7 : tie.Need-returns-7
 returns-7 c = search needs
 

@@ -1,24 +1,27 @@
+-- `mailbox::refusals::flash_blocks` meets its contract.
+use mathlib.Core.Path.{_≡_}
+use Prim.Native.Nat.{_-_}
+use native.Mathlib.Omega.{arith}
+use borrow.Author.Tests.{le-leb, lt-leb}
 use borrow.Author.Needs.{needs}
 use Rattle.mailbox.proofs.refusals.flash_blocks.Statement.{statement}
 use Rattle.mailbox.proofs.refusals.flash_blocks.Tie as tie
-use Rattle.mailbox.proofs.refusals.flash_blocks.Reads as reads
-use Rattle.mailbox.proofs.refusals.flash_blocks.Lts as lts
 
--- src/refusals.rt:241:9
 returns : tie.Need-returns
-returns c = ?
+returns c =
+    let a = c .before .args in
+    let none : a .named - a .first ≡ 0 = omega arith in
+    rw (lt-leb (a .first) (a .named) (c .if1 .taken), none)
 
--- src/refusals.rt:248:17
 add-t6 : tie.Need-add-t6
 add-t6 c = search needs
 
--- src/refusals.rt:248:36
 add-t7 : tie.Need-add-t7
 add-t7 c = search needs
 
--- src/refusals.rt:232:1
 returns-2 : tie.Need-returns-2
-returns-2 c = ?
+returns-2 c =
+    rw (le-leb (c .before .before .args .first) (c .before .before .args .named) (c .before .if1 .left))
 
 pub flash-blocks-spec : {M : Type 1} → statement M
 flash-blocks-spec = tie.close (tie.spec returns add-t6 add-t7 returns-2)

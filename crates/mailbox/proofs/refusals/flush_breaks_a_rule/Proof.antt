@@ -1,26 +1,24 @@
+-- `mailbox::refusals::flush_breaks_a_rule` meets its contract.
+use mathlib.Core.Path.{sym, ap, _∙_}
+use mathlib.Core.Bool.{not}
+use Rattle.mailbox.specs.declared.refusals.BlockRange.{BlockRange}
 use borrow.Author.Needs.{needs}
 use Rattle.mailbox.proofs.refusals.flush_breaks_a_rule.Statement.{statement}
 use Rattle.mailbox.proofs.refusals.flush_breaks_a_rule.Tie as tie
-use Rattle.mailbox.proofs.refusals.flush_breaks_a_rule.Reads as reads
-use Rattle.mailbox.proofs.refusals.flush_breaks_a_rule.Lts as lts
-use Rattle.mailbox.proofs.refusals.blocks_named.Reads as blocks-named-reads
-use Rattle.mailbox.proofs.refusals.flush_marks.Reads as flush-marks-reads
 
--- src/refusals.rt:196:8
 flush-marks-requires : tie.Need-flush-marks-requires
 flush-marks-requires c κs = search needs
 
--- src/refusals.rt:197:10
 blocks-named-requires : tie.Need-blocks-named-requires
 blocks-named-requires c κs = search needs
 
--- src/refusals.rt:193:1
 returns : tie.Need-returns
-returns c = ?
+returns c =
+    rw (sym (c .before .before .before .flush-marks .ensures) ∙ c .before .before .if1 .taken)
+    (ap (λ (b : BlockRange). not (b .inside)) (c .before .blocks-named .ensures))
 
--- src/refusals.rt:193:1
 returns-2 : tie.Need-returns-2
-returns-2 c = ?
+returns-2 c = rw (sym (c .before .flush-marks .ensures) ∙ c .if1 .left)
 
 pub flush-breaks-a-rule-spec : {M : Type 1} → statement M
 flush-breaks-a-rule-spec =

@@ -1,29 +1,31 @@
+-- `mailbox::refusals::is_known` meets its contract.
+use native.Mathlib.Omega.{arith}
+use borrow.Author.Tests.{eq-eqb, ne-eqb, le-leb, lt-leb}
 use borrow.Author.Needs.{needs}
 use Rattle.mailbox.proofs.refusals.is_known.Statement.{statement}
 use Rattle.mailbox.proofs.refusals.is_known.Tie as tie
-use Rattle.mailbox.proofs.refusals.is_known.Reads as reads
-use Rattle.mailbox.proofs.refusals.is_known.Lts as lts
-use Rattle.mailbox.proofs.refusals.known_at_first.Reads as known-at-first-reads
 
--- src/refusals.rt:109:9
 known-at-first-requires : tie.Need-known-at-first-requires
 known-at-first-requires c κs = search needs
 
--- src/refusals.rt:109:9
 returns : tie.Need-returns
-returns c = ?
+returns c =
+    rw (eq-eqb (c .before .before .args .version) 0 (c .before .if1 .taken)) (c .known-at-first .ensures)
 
--- src/refusals.rt:112:9
 returns-2 : tie.Need-returns-2
-returns-2 c = ?
+returns-2 c =
+    let a = c .before .before .args in
+    rw (ne-eqb (a .version) 0 (c .before .if1 .left), lt-leb 1 (a .command) (omega arith))
 
--- src/refusals.rt:115:9
 returns-3 : tie.Need-returns-3
-returns-3 c = ?
+returns-3 c =
+    let a = c .before .before .before .args in
+    rw (ne-eqb (a .version) 0 (c .before .before .if1 .left), le-leb 1 (a .command) (omega arith), eq-eqb (a .version) 1 (c .if3 .taken))
 
--- src/refusals.rt:105:1
 returns-4 : tie.Need-returns-4
-returns-4 c = ?
+returns-4 c =
+    let a = c .before .before .before .args in
+    rw (ne-eqb (a .version) 0 (c .before .before .if1 .left), le-leb 1 (a .command) (omega arith), ne-eqb (a .version) 1 (c .if3 .left))
 
 pub is-known-spec : {M : Type 1} → statement M
 is-known-spec = tie.close (tie.spec known-at-first-requires returns returns-2 returns-3 returns-4)

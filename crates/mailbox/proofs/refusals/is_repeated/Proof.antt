@@ -1,36 +1,32 @@
+-- `mailbox::refusals::is_repeated` meets its contract.
+use lib.ListN.{getD}
+use borrow.Author.Tests.{eq-eqb, ne-eqb}
 use borrow.Author.Needs.{needs}
 use Rattle.mailbox.proofs.refusals.is_repeated.Statement.{statement}
 use Rattle.mailbox.proofs.refusals.is_repeated.Tie as tie
-use Rattle.mailbox.proofs.refusals.is_repeated.Reads as reads
-use Rattle.mailbox.proofs.refusals.is_repeated.Lts as lts
 
--- src/refusals.rt:94:8
 array-read-if1 : tie.Need-array-read-if1
 array-read-if1 c = search needs
 
--- src/refusals.rt:95:9
 returns : tie.Need-returns
-returns c = ?
+returns c = rw (eq-eqb (getD (c .before .args .t2) 0 0) 2 (c .if1 .taken))
 
--- src/refusals.rt:99:29
 enum-told : tie.Need-enum-told
 enum-told c = search needs
 
--- src/refusals.rt:100:26
 enum-known-previous : tie.Need-enum-known-previous
 enum-known-previous c = search needs
 
--- src/refusals.rt:100:35
 array-read-result : tie.Need-array-read-result
 array-read-result c = search needs
 
--- src/refusals.rt:91:1
 returns-2 : tie.Need-returns-2
-returns-2 c = ?
+returns-2 c =
+    rw (ne-eqb (getD (c .before .before .before .args .t2) 0 0) 2 (c .before .before .if1 .left), c .enum-told .given .1)
 
--- src/refusals.rt:91:1
 returns-3 : tie.Need-returns-3
-returns-3 c = ?
+returns-3 c =
+    rw (ne-eqb (getD (c .before .before .before .before .args .t2) 0 0) 2 (c .before .before .before .if1 .left), c .before .previous .given .1)
 
 pub is-repeated-spec : {M : Type 1} → statement M
 is-repeated-spec =

@@ -1,19 +1,20 @@
+-- `mailbox::refusals::is_suspended_for` meets its contract.
+use borrow.Author.Tests.{eq-eqb, ne-eqb, not-true, not-false}
 use Rattle.mailbox.proofs.refusals.is_suspended_for.Statement.{statement}
 use Rattle.mailbox.proofs.refusals.is_suspended_for.Tie as tie
-use Rattle.mailbox.proofs.refusals.is_suspended_for.Reads as reads
-use Rattle.mailbox.proofs.refusals.is_suspended_for.Lts as lts
 
--- src/refusals.rt:138:9
 returns : tie.Need-returns
-returns c = ?
+returns c = rw (not-true (c .before .args .suspended) (c .if1 .taken))
 
--- src/refusals.rt:141:9
 returns-2 : tie.Need-returns-2
-returns-2 c = ?
+returns-2 c =
+    let a = c .before .before .args in
+    rw (not-false (a .suspended) (c .before .if1 .left), eq-eqb (a .command) 2 (c .if2 .taken))
 
--- src/refusals.rt:134:1
 returns-3 : tie.Need-returns-3
-returns-3 c = ?
+returns-3 c =
+    let a = c .before .before .args in
+    rw (not-false (a .suspended) (c .before .if1 .left), ne-eqb (a .command) 2 (c .if2 .left))
 
 pub is-suspended-for-spec : {M : Type 1} → statement M
 is-suspended-for-spec = tie.close (tie.spec returns returns-2 returns-3)

@@ -1,83 +1,135 @@
+-- `mailbox::refusals::reason_for` meets its contract.
+use mathlib.Core.Path.{_≡_, sym, ap, _∙_}
+use mathlib.Core.Bool.{true}
+use Prim.Native.Nat.{ℕ}
+use borrow.Author.Tests.{not-true, not-false}
 use borrow.Author.Needs.{needs}
+use Rattle.session.specs.Soundness.{soundAt}
+use Rattle.mailbox.specs.Refusals.{argumentBroken, reasonFor}
+use Rattle.mailbox.proofs.Checks.{flash-counted}
 use Rattle.mailbox.proofs.refusals.reason_for.Statement.{statement}
 use Rattle.mailbox.proofs.refusals.reason_for.Tie as tie
-use Rattle.mailbox.proofs.refusals.reason_for.Reads as reads
-use Rattle.mailbox.proofs.refusals.reason_for.Lts as lts
-use Rattle.mailbox.proofs.refusals.breaks_a_rule.Reads as breaks-a-rule-reads
-use Rattle.mailbox.proofs.refusals.is_known.Reads as is-known-reads
-use Rattle.mailbox.proofs.refusals.is_repeated.Reads as is-repeated-reads
-use Rattle.mailbox.proofs.refusals.is_suspended_for.Reads as is-suspended-for-reads
-use Rattle.mailbox.proofs.refusals.is_windowless.Reads as is-windowless-reads
-use Rattle.session.proofs.is_sound_at.Reads as is-sound-at-reads
-use Rattle.units.proofs.Bytes.blocks.Reads as blocks-reads
 
--- src/refusals.rt:45:9
 is-sound-at-requires : tie.Need-is-sound-at-requires
 is-sound-at-requires c κs = search needs
 
--- src/refusals.rt:46:9
 returns : tie.Need-returns
-returns c = ?
+unfolding reasonFor
+returns c = rw (sym (c .before .is-sound-at .ensures) ∙ not-true _ (c .if1 .taken))
 
--- src/refusals.rt:48:8
 is-repeated-requires : tie.Need-is-repeated-requires
 is-repeated-requires c κs = search needs
 
--- src/refusals.rt:49:9
 returns-2 : tie.Need-returns-2
-returns-2 c = ?
+unfolding reasonFor
+returns-2 c =
+    let sound = c .before .before in
+    rw (sym (sound .before .is-sound-at .ensures) ∙ not-false _ (sound .if1 .left), sym (c .before .is-repeated .ensures) ∙ c .if2 .taken)
 
--- src/refusals.rt:51:35
 array-read-is-known : tie.Need-array-read-is-known
 array-read-is-known c = search needs
 
--- src/refusals.rt:51:9
 is-known-requires : tie.Need-is-known-requires
 is-known-requires c κs = search needs
 
--- src/refusals.rt:52:9
 returns-3 : tie.Need-returns-3
-returns-3 c = ?
+unfolding reasonFor
+returns-3 c =
+    let fresh = c .before .before in
+    let sound = fresh .before .before in
+    rw (
+      sym (sound .before .is-sound-at .ensures) ∙ not-false _ (sound .if1 .left),
+      sym (fresh .before .is-repeated .ensures) ∙ fresh .if2 .left,
+      sym (c .before .is-known .ensures) ∙ not-true _ (c .if3 .taken),
+    )
 
--- src/refusals.rt:54:44
 array-read-is-suspended-for : tie.Need-array-read-is-suspended-for
 array-read-is-suspended-for c = search needs
 
--- src/refusals.rt:54:8
 is-suspended-for-requires : tie.Need-is-suspended-for-requires
 is-suspended-for-requires c κs = search needs
 
--- src/refusals.rt:55:9
 returns-4 : tie.Need-returns-4
-returns-4 c = ?
+unfolding reasonFor
+returns-4 c =
+    let known = c .before .before in
+    let fresh = known .before .before in
+    let sound = fresh .before .before in
+    rw (
+      sym (sound .before .is-sound-at .ensures) ∙ not-false _ (sound .if1 .left),
+      sym (fresh .before .is-repeated .ensures) ∙ fresh .if2 .left,
+      sym (known .before .is-known .ensures) ∙ not-false _ (known .if3 .left),
+      sym (c .before .is-suspended-for .ensures) ∙ c .if4 .taken,
+    )
 
--- src/refusals.rt:58:30
 array-read-is-windowless : tie.Need-array-read-is-windowless
 array-read-is-windowless c = search needs
 
--- src/refusals.rt:58:8
 is-windowless-requires : tie.Need-is-windowless-requires
 is-windowless-requires c κs = search needs
 
--- src/refusals.rt:59:9
 returns-5 : tie.Need-returns-5
-returns-5 c = ?
+unfolding reasonFor
+returns-5 c =
+    let awake = c .before .before in
+    let known = awake .before .before in
+    let fresh = known .before .before in
+    let sound = fresh .before .before in
+    rw (
+      sym (sound .before .is-sound-at .ensures) ∙ not-false _ (sound .if1 .left),
+      sym (fresh .before .is-repeated .ensures) ∙ fresh .if2 .left,
+      sym (known .before .is-known .ensures) ∙ not-false _ (known .if3 .left),
+      sym (awake .before .is-suspended-for .ensures) ∙ awake .if4 .left,
+      sym (c .before .is-windowless .ensures) ∙ c .if5 .taken,
+    )
 
--- src/refusals.rt:61:24
 blocks-requires : tie.Need-blocks-requires
 blocks-requires c κs = search needs
 
--- src/refusals.rt:62:8
 breaks-a-rule-requires : tie.Need-breaks-a-rule-requires
 breaks-a-rule-requires c κs = search needs
 
--- src/refusals.rt:63:9
 returns-6 : tie.Need-returns-6
-returns-6 c = ?
+unfolding reasonFor
+returns-6 c =
+    let windowed = c .before .before .before in
+    let awake = windowed .before .before in
+    let known = awake .before .before in
+    let fresh = known .before .before in
+    let sound = fresh .before .before in
+    let a = sound .before .before .args in
+    let whole : soundAt (a .board .lpc) (a .flash) (a .memory) (a .session) ≡ true =
+    sym (sound .before .is-sound-at .ensures) ∙ not-false _ (sound .if1 .left) in
+    let blocks = c .before .before .blocks2 .ensures ∙ flash-counted (a .board .lpc) (a .flash) (a .memory) (a .session) whole in
+    rw (
+      whole,
+      sym (fresh .before .is-repeated .ensures) ∙ fresh .if2 .left,
+      sym (known .before .is-known .ensures) ∙ not-false _ (known .if3 .left),
+      sym (awake .before .is-suspended-for .ensures) ∙ awake .if4 .left,
+      sym (windowed .before .is-windowless .ensures) ∙ windowed .if5 .left,
+      ap (λ (n : ℕ). argumentBroken (a .session) (a .t2) n) (sym blocks) ∙ sym (c .before .breaks-a-rule .ensures) ∙ c .if6 .taken,
+    )
 
--- src/refusals.rt:36:1
 returns-7 : tie.Need-returns-7
-returns-7 c = ?
+unfolding reasonFor
+returns-7 c =
+    let windowed = c .before .before .before in
+    let awake = windowed .before .before in
+    let known = awake .before .before in
+    let fresh = known .before .before in
+    let sound = fresh .before .before in
+    let a = sound .before .before .args in
+    let whole : soundAt (a .board .lpc) (a .flash) (a .memory) (a .session) ≡ true =
+    sym (sound .before .is-sound-at .ensures) ∙ not-false _ (sound .if1 .left) in
+    let blocks = c .before .before .blocks2 .ensures ∙ flash-counted (a .board .lpc) (a .flash) (a .memory) (a .session) whole in
+    rw (
+      whole,
+      sym (fresh .before .is-repeated .ensures) ∙ fresh .if2 .left,
+      sym (known .before .is-known .ensures) ∙ not-false _ (known .if3 .left),
+      sym (awake .before .is-suspended-for .ensures) ∙ awake .if4 .left,
+      sym (windowed .before .is-windowless .ensures) ∙ windowed .if5 .left,
+      ap (λ (n : ℕ). argumentBroken (a .session) (a .t2) n) (sym blocks) ∙ sym (c .before .breaks-a-rule .ensures) ∙ c .if6 .left,
+    )
 
 pub reason-for-spec : {M : Type 1} → statement M
 reason-for-spec =

@@ -1,15 +1,13 @@
+-- `mailbox::refusals::translated` meets its contract.
+use borrow.Author.Tests.{lt-ltb, le-ltb}
 use Rattle.mailbox.proofs.refusals.translated.Statement.{statement}
 use Rattle.mailbox.proofs.refusals.translated.Tie as tie
-use Rattle.mailbox.proofs.refusals.translated.Reads as reads
-use Rattle.mailbox.proofs.refusals.translated.Lts as lts
 
--- src/refusals.rt:84:1
 returns : tie.Need-returns
-returns c = ?
+returns c = rw (lt-ltb (c .before .args .version) 2 (c .if1 .taken))
 
--- src/refusals.rt:84:1
 returns-2 : tie.Need-returns-2
-returns-2 c = ?
+returns-2 c = rw (le-ltb (c .before .args .version) 2 (c .if1 .left))
 
 pub translated-spec : {M : Type 1} → statement M
 translated-spec = tie.close (tie.spec returns returns-2)

@@ -1,19 +1,20 @@
+-- `mailbox::refusals::works_on_marks` meets its contract.
+use borrow.Author.Tests.{eq-eqb, ne-eqb}
 use Rattle.mailbox.proofs.refusals.works_on_marks.Statement.{statement}
 use Rattle.mailbox.proofs.refusals.works_on_marks.Tie as tie
-use Rattle.mailbox.proofs.refusals.works_on_marks.Reads as reads
-use Rattle.mailbox.proofs.refusals.works_on_marks.Lts as lts
 
--- src/refusals.rt:161:9
 returns : tie.Need-returns
-returns c = ?
+returns c = rw (eq-eqb (c .before .args .command) 7 (c .if1 .taken))
 
--- src/refusals.rt:164:9
 returns-2 : tie.Need-returns-2
-returns-2 c = ?
+returns-2 c =
+    let command = c .before .before .args .command in
+    rw (ne-eqb command 7 (c .before .if1 .left), eq-eqb command 8 (c .if2 .taken))
 
--- src/refusals.rt:157:1
 returns-3 : tie.Need-returns-3
-returns-3 c = ?
+returns-3 c =
+    let command = c .before .before .args .command in
+    rw (ne-eqb command 7 (c .before .if1 .left), ne-eqb command 8 (c .if2 .left))
 
 pub works-on-marks-spec : {M : Type 1} → statement M
 works-on-marks-spec = tie.close (tie.spec returns returns-2 returns-3)

@@ -1,68 +1,61 @@
+-- `mailbox::registers::replied` meets its contract.
+use mathlib.Core.Path.{_≡_, ap}
+use mathlib.Core.List.{List, [], _∷_, _++_}
+use Prim.Native.Nat.{ℕ}
 use borrow.Author.Needs.{needs}
+use lib.ListN.{length, getD}
+use Rattle.mailbox.proofs.Fields.{elements-of}
 use Rattle.mailbox.proofs.registers.replied.Statement.{statement}
 use Rattle.mailbox.proofs.registers.replied.Tie as tie
-use Rattle.mailbox.proofs.registers.replied.Reads as reads
-use Rattle.mailbox.proofs.registers.replied.Lts as lts
 
--- src/registers.rt:32:9
 array-read-t9 : tie.Need-array-read-t9
 array-read-t9 c = search needs
 
--- src/registers.rt:33:9
 array-read-t12 : tie.Need-array-read-t12
 array-read-t12 c = search needs
 
--- src/registers.rt:34:9
 array-read-t15 : tie.Need-array-read-t15
 array-read-t15 c = search needs
 
--- src/registers.rt:35:9
 array-read-t18 : tie.Need-array-read-t18
 array-read-t18 c = search needs
 
--- src/registers.rt:36:9
 array-read-t21 : tie.Need-array-read-t21
 array-read-t21 c = search needs
 
--- src/registers.rt:37:9
 array-read-t24 : tie.Need-array-read-t24
 array-read-t24 c = search needs
 
--- src/registers.rt:38:9
 array-read-t27 : tie.Need-array-read-t27
 array-read-t27 c = search needs
 
--- src/registers.rt:39:9
 array-read-t30 : tie.Need-array-read-t30
 array-read-t30 c = search needs
 
--- src/registers.rt:40:9
 array-read-t33 : tie.Need-array-read-t33
 array-read-t33 c = search needs
 
--- src/registers.rt:41:9
 array-read-t36 : tie.Need-array-read-t36
 array-read-t36 c = search needs
 
--- src/registers.rt:42:9
 array-read-t39 : tie.Need-array-read-t39
 array-read-t39 c = search needs
 
--- src/registers.rt:43:9
 array-read-t42 : tie.Need-array-read-t42
 array-read-t42 c = search needs
 
--- src/registers.rt:44:9
 array-read-t45 : tie.Need-array-read-t45
 array-read-t45 c = search needs
 
--- src/registers.rt:46:9
 array-read-t48 : tie.Need-array-read-t48
 array-read-t48 c = search needs
 
--- src/registers.rt:28:1
 returns : tie.Need-returns
-returns c = ?
+returns c =
+    let a = c .args in
+    let long : length (a .t3) ≡ 11 = search needs in
+    ap (λ (t : List ℕ). getD (a .t1) 0 0 ∷ getD (a .t1) 1 0 ∷ (t ++ (a .code ∷ getD (a .t1) 14 0 ∷ a .events ∷ [])))
+    (elements-of 11 (a .t3) long)
 
 pub replied-spec : {M : Type 1} → statement M
 replied-spec =

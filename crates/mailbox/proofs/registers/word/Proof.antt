@@ -1,44 +1,43 @@
+-- `mailbox::registers::word` meets its contract.
+use mathlib.Core.Path.{_≡_}
+use Prim.Native.Nat.{suc, _+_}
+use native.Mathlib.Omega.{arith}
 use borrow.Author.Needs.{needs}
+use lib.ListN.{getD}
+use mir.Syntax.{w8}
+use mir.Val.{Fits}
 use Rattle.mailbox.proofs.registers.word.Statement.{statement}
 use Rattle.mailbox.proofs.registers.word.Tie as tie
-use Rattle.mailbox.proofs.registers.word.Reads as reads
-use Rattle.mailbox.proofs.registers.word.Lts as lts
 
--- src/registers.rt:14:15
 add-low : tie.Need-add-low
 add-low c = search needs
 
--- src/registers.rt:15:16
 add-high : tie.Need-add-high
 add-high c = search needs
 
--- src/registers.rt:16:6
 array-read-result : tie.Need-array-read-result
 array-read-result c = search needs
 
--- src/registers.rt:16:6
 cast-result : tie.Need-cast-result
 cast-result c = search needs
 
--- src/registers.rt:16:32
 array-read-result-2 : tie.Need-array-read-result-2
 array-read-result-2 c = search needs
 
--- src/registers.rt:16:32
 cast-result-2 : tie.Need-cast-result-2
 cast-result-2 c = search needs
 
--- src/registers.rt:16:31
 mul-result : tie.Need-mul-result
-mul-result c = ?
+mul-result c = let h : Fits w8 (getD (c .args .t1) (3 + c .args .i) 0) = search needs in omega arith
 
--- src/registers.rt:16:5
 add-result : tie.Need-add-result
-add-result c = ?
+add-result c =
+    let l : Fits w8 (getD (c .args .t1) (2 + c .args .i) 0) = search needs in
+    let h : Fits w8 (getD (c .args .t1) (3 + c .args .i) 0) = search needs in
+    omega arith
 
--- src/registers.rt:10:1
 returns : tie.Need-returns
-returns c = ?
+returns c = let h : 3 + c .args .i ≡ 2 + suc (c .args .i) = omega arith in rw h (omega arith)
 
 pub word-spec : {M : Type 1} → statement M
 word-spec =

@@ -1,4 +1,14 @@
+-- `mailbox::windows::close_window` meets its contract.
+use mathlib.Core.Path.{_≡_, refl, sym, ap, _∙_}
+use mathlib.Core.List.{List, []}
+use Prim.Native.Nat.{ℕ, _+_, _-_}
+use native.Mathlib.Omega.{arith}
 use borrow.Author.Needs.{needs}
+use borrow.Author.Tests.{lt-ltb, le-ltb, le-leb, lt-leb, eq-eqb, ne-eqb}
+use lib.ListN.{length, replicate}
+use Rattle.session.specs.declared.Session.{Session}
+use Rattle.mailbox.specs.Commands.{answerWith}
+use Rattle.session.specs.Record.{dropWindow}
 use Rattle.mailbox.proofs.windows.close_window.Statement.{statement}
 use Rattle.mailbox.proofs.windows.close_window.Tie as tie
 use Rattle.mailbox.proofs.windows.close_window.Reads as reads
@@ -25,7 +35,13 @@ same-length c = search needs
 
 -- src/windows.rt:34:1
 returns : tie.Need-returns
-returns c = ?
+returns c =
+    let a = c .before .before .before .before .before .before .before .before .args in
+    let call = c .before .before .before .before .flush-window in
+    ( c .answer .ensures
+      ∙ ap (λ (s : Session). answerWith s (a .registers) (a .code) (replicate 11 0) (call .result)) (c .before .without-window .ensures)
+      ∙ ap (answerWith (dropWindow (a .session)) (a .registers) (a .code) (replicate 11 0)) (call .ensures .0)
+    , call .ensures .1)
 
 pub close-window-spec : {M : Type 1} → statement M
 close-window-spec =

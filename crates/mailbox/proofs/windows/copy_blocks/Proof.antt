@@ -1,4 +1,13 @@
+-- `mailbox::windows::copy_blocks` meets its contract.
+use mathlib.Core.Path.{_≡_, refl, sym, ap, _∙_}
+use mathlib.Core.List.{List, []}
+use Prim.Native.Nat.{ℕ, _+_, _-_}
+use native.Mathlib.Omega.{arith}
 use borrow.Author.Needs.{needs}
+use borrow.Author.Tests.{lt-ltb, le-ltb, le-leb, lt-leb, eq-eqb, ne-eqb}
+use lib.ListN.{length, replicate}
+use Rattle.session.specs.declared.Session.{Session}
+use Rattle.mailbox.proofs.Front.{copied-front}
 use Rattle.mailbox.proofs.windows.copy_blocks.Statement.{statement}
 use Rattle.mailbox.proofs.windows.copy_blocks.Tie as tie
 use Rattle.mailbox.proofs.windows.copy_blocks.Reads as reads
@@ -52,7 +61,11 @@ same-length c = search needs
 
 -- src/windows.rt:138:1
 returns : tie.Need-returns
-returns c = ?
+returns c =
+    let a = c .before .before .before .before .before .before .before .before .before .args in
+    let start = c .before .before .before .before .before .before .bytes in
+    let bytes = c .before .before .before .before .before .bytes2 in
+    copied-front (a .flash .now) (a .memory .now) (c .before .before .copy .last .0) (start .result .0) (bytes .result .0) (a .first) (a .size) (start .ensures) (bytes .ensures) (omega arith) (omega arith) (c .before .before .copy .ensures)
 
 pub copy-blocks-spec : {M : Type 1} → statement M
 copy-blocks-spec =

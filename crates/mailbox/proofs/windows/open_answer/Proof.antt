@@ -1,4 +1,12 @@
+-- `mailbox::windows::open_answer` meets its contract.
+use mathlib.Core.Path.{_≡_, refl, sym, ap, _∙_}
+use mathlib.Core.List.{List, []}
+use Prim.Native.Nat.{ℕ, _+_, _-_}
+use native.Mathlib.Omega.{arith}
 use borrow.Author.Needs.{needs}
+use borrow.Author.Tests.{lt-ltb, le-ltb, le-leb, lt-leb, eq-eqb, ne-eqb}
+use lib.ListN.{length, replicate}
+use Rattle.session.specs.declared.Session.{Session}
 use Rattle.mailbox.proofs.windows.open_answer.Statement.{statement}
 use Rattle.mailbox.proofs.windows.open_answer.Tie as tie
 use Rattle.mailbox.proofs.windows.open_answer.Reads as reads
@@ -19,7 +27,8 @@ answer-requires c κs = search needs
 
 -- src/windows.rt:178:9
 returns : tie.Need-returns
-returns c = ?
+returns c =
+    rw (lt-ltb (c .before .before .before .args .session .version) 2 (c .before .if1 .taken)) (c .answer .ensures)
 
 -- src/windows.rt:186:14
 cast-s0 : tie.Need-cast-s0
@@ -43,7 +52,8 @@ answer-requires-2 c κs = search needs
 
 -- src/windows.rt:172:1
 returns-2 : tie.Need-returns-2
-returns-2 c = ?
+returns-2 c =
+    rw (le-ltb (c .before .before .before .before .before .before .before .args .session .version) 2 (c .before .before .before .before .before .if1 .left)) (c .answer2 .ensures)
 
 pub open-answer-spec : {M : Type 1} → statement M
 open-answer-spec =

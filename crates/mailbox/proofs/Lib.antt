@@ -1,0 +1,4 @@
+pub mod Accepting
+pub mod Checks
+mod Fields
+mod Front
