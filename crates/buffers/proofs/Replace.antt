@@ -71,7 +71,7 @@ module _ (at : ℕ) (ys xs : List ℕ) (fits : at + length ys ≤ length xs) whe
   pub replace-again : (zs : List ℕ) → length zs ≡ length ys → replace at zs (replace at ys xs) ≡ replace at zs xs
   replace-again zs e =
       ap (λ (t : List ℕ). t ++ (zs ++ drop (at + length zs) (replace at ys xs)))
-        (take-at (take at xs) (ys ++ drop (at + length ys) xs) at (length-take-le at xs (omega arith)))
+      (take-at (take at xs) (ys ++ drop (at + length ys) xs) at (length-take-le at xs (omega arith)))
       ∙ ap (λ (t : List ℕ). take at xs ++ (zs ++ t)) after
     where
       after : drop (at + length zs) (replace at ys xs) ≡ drop (at + length zs) xs

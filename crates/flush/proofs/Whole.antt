@@ -100,10 +100,13 @@ module _ (s : Session) (flash : List ℕ) (fits : partEnd s ≤ length flash) wh
       where
         all : AllIn (s .size) (windowActions s)
         all = all-flush (s .size) (s .marks) sound
+
         first : List Action
         first = take j (windowActions s)
+
         some : AllIn (s .size) first
         some = all-take (s .size) j (windowActions s) all
+
         ends : performAll memory₂ (windowActions s) (performAll memory first (windowPart s flash)) ≡ performAll memory (windowActions s) (windowPart s flash)
         ends =
             flush-same (s .size) (s .marks) sound memory₂ memory (performAll memory first (windowPart s flash)) (windowPart s flash)

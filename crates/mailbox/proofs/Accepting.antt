@@ -56,14 +56,19 @@ passed board s registers flash memory e =
   where
     no-system : System ≡ Accepted → ⊥
     no-system q = let z : _≡_ {A = ℕ} 0 1 = cc in omega arith
+
     no-repeated : Repeated ≡ Accepted → ⊥
     no-repeated q = let z : _≡_ {A = ℕ} 0 1 = cc in omega arith
+
     no-unknown : Unknown ≡ Accepted → ⊥
     no-unknown q = let z : _≡_ {A = ℕ} 0 1 = cc in omega arith
+
     no-suspended : Suspended ≡ Accepted → ⊥
     no-suspended q = let z : _≡_ {A = ℕ} 0 1 = cc in omega arith
+
     no-windowless : Windowless ≡ Accepted → ⊥
     no-windowless q = let z : _≡_ {A = ℕ} 0 1 = cc in omega arith
+
     no-argument : Argument ≡ Accepted → ⊥
     no-argument q = let z : _≡_ {A = ℕ} 0 1 = cc in omega arith
 
@@ -133,14 +138,14 @@ pub last-known : (version command : ℕ) → known version command ≡ true
 last-known version command k n1 n2 n3 n4 n5 n6 n7 n8 n9 =
     ⊎-elim
     (λ (z : eqb version 0 ≡ true).
-      absurd (false≢true (rw (z, ne-eqb command 1 n1, ne-eqb command 2 n2, ne-eqb command 9 n9) at k)))
+    absurd (false≢true (rw (z, ne-eqb command 1 n1, ne-eqb command 2 n2, ne-eqb command 9 n9) at k)))
     (λ (z : eqb version 0 ≡ false).
-      let p = both (leb 1 command) (leb command (cond (eqb version 1) 9 10)) (rw z at k) in
-      let low = past command 9 n9 (past command 8 n8 (past command 7 n7 (past command 6 n6 (past command 5 n5 (past command 4 n4 (past command 3 n3 (past command 2 n2 (past command 1 n1 (leb-true 1 command (p .0)))))))))) in
-      ⊎-elim
-      (λ (o : eqb version 1 ≡ true). absurd (over low (leb-true command 9 (rw o at (p .1)))))
-      (λ (o : eqb version 1 ≡ false). le-antisymm (leb-true command 10 (rw o at (p .1))) low)
-      (decided (eqb version 1)))
+    let p = both (leb 1 command) (leb command (cond (eqb version 1) 9 10)) (rw z at k) in
+    let low = past command 9 n9 (past command 8 n8 (past command 7 n7 (past command 6 n6 (past command 5 n5 (past command 4 n4 (past command 3 n3 (past command 2 n2 (past command 1 n1 (leb-true 1 command (p .0)))))))))) in
+    ⊎-elim
+    (λ (o : eqb version 1 ≡ true). absurd (over low (leb-true command 9 (rw o at (p .1)))))
+    (λ (o : eqb version 1 ≡ false). le-antisymm (leb-true command 10 (rw o at (p .1))) low)
+    (decided (eqb version 1)))
     (decided (eqb version 0))
   where
     over : 10 ≤ command → command ≤ 9 → ⊥

@@ -27,8 +27,10 @@ copied-front flash memory ys a n first size start count fits room q =
   where
     both : a + n - a ≡ n - 0
     both = omega arith
+
     lone : n - 0 ≡ n
     lone = omega arith
+
     whole : ys ≡ midOf a (a + n - a) flash
     whole = q ∙ copy-whole (midOf 0 (n - 0) memory) (midOf a (a + n - a) flash) (mid-len a (a + n) flash fits ∙ both ∙ sym (mid-len 0 n memory room))
 

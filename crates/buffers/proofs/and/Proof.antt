@@ -1,5 +1,5 @@
 -- `buffers::and` meets its contract. After i turns the first i bytes are ANDed.
-use mathlib.Core.Path.{_≡_, refl, ap, _∙_, sym}
+use mathlib.Core.Path.{_≡_, refl, ap, _∙_}
 use Prim.Native.Nat.{ℕ, _≤_, _-_, min}
 use mathlib.Core.List.{List}
 use mathlib.Core.Logic.{⊎-elim}
@@ -10,8 +10,6 @@ use lib.ListN.{length, getD, set, length-set}
 use Rattle.buffers.proofs.Each.{partWay, each-more, each-all}
 use Rattle.buffers.proofs.and.Statement.{statement}
 use Rattle.buffers.proofs.and.Tie as tie
-use Rattle.buffers.proofs.and.Reads as reads
-use Rattle.buffers.proofs.and.Lts as lts
 
 abbrev Inv-loop : tie.InvT-loop
 Inv-loop part₀ other end i₀ part i =

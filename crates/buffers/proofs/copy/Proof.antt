@@ -1,5 +1,5 @@
 -- `buffers::copy` meets its contract. After i turns the first i bytes are copied.
-use mathlib.Core.Path.{_≡_, refl, ap, _∙_, sym}
+use mathlib.Core.Path.{_≡_, refl, ap, _∙_}
 use Prim.Native.Nat.{ℕ, _≤_, _-_, min}
 use mathlib.Core.List.{List}
 use mathlib.Core.Logic.{⊎-elim}
@@ -9,8 +9,6 @@ use lib.ListN.{length, getD, set, length-set}
 use Rattle.buffers.proofs.Each.{partWay, each-more, each-all}
 use Rattle.buffers.proofs.copy.Statement.{statement}
 use Rattle.buffers.proofs.copy.Tie as tie
-use Rattle.buffers.proofs.copy.Reads as reads
-use Rattle.buffers.proofs.copy.Lts as lts
 
 -- each byte by the other
 abbrev second : ℕ → ℕ → ℕ

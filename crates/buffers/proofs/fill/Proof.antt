@@ -1,7 +1,7 @@
 -- `buffers::fill` meets its contract. After i turns the first i bytes are the value, and the others are as they were.
-use mathlib.Core.Path.{_≡_, refl, ap, _∙_, sym}
-use mathlib.Core.List.{List, [], _++_, append-nil}
-use Prim.Native.Nat.{ℕ, _≤_, _<_, _-_}
+use mathlib.Core.Path.{_≡_, ap, _∙_}
+use mathlib.Core.List.{List, _++_, append-nil}
+use Prim.Native.Nat.{ℕ, _≤_, _-_}
 use native.Mathlib.Omega.{arith}
 use borrow.Author.Needs.{needs}
 use borrow.Author.Fill.{fill-more}
@@ -9,8 +9,6 @@ use lib.ListN.{length, replicate, set, drop, length-set}
 use lib.Seq.{drop-length}
 use Rattle.buffers.proofs.fill.Statement.{statement}
 use Rattle.buffers.proofs.fill.Tie as tie
-use Rattle.buffers.proofs.fill.Reads as reads
-use Rattle.buffers.proofs.fill.Lts as lts
 
 abbrev Inv-loop : tie.InvT-loop
 Inv-loop part₀ value i₀ part i = (i ≤ length part₀) × (part ≡ replicate i value ++ drop i part₀) × (length part ≡ length part₀)

@@ -4,46 +4,33 @@ use borrow.Author.Needs.{needs}
 use Rattle.chip.proofs.Lent.{erase-out, erase-done}
 use Rattle.chip.proofs.erase_block.Statement.{statement}
 use Rattle.chip.proofs.erase_block.Tie as tie
-use Rattle.chip.proofs.erase_block.Reads as reads
-use Rattle.chip.proofs.erase_block.Lts as lts
-use Rattle.buffers.proofs.fill.Reads as fill-reads
-use Rattle.units.proofs.Blocks.bytes.Reads as bytes-reads
 
--- src/lib.rt:23:17
 bytes-requires : tie.Need-bytes-requires
 bytes-requires c κs = search needs
 
--- src/lib.rt:24:15
 add-end : tie.Need-add-end
 add-end c = search needs
 
--- src/lib.rt:26:9
 returns : tie.Need-returns
 returns c =
     let a = c .before .before .before .args in
     erase-out (a .block .0) (c .before .bytes .result .0) (a .flash .now) (c .before .bytes .ensures) (c .if1 .taken)
 
--- src/lib.rt:28:10
 sub-fill : tie.Need-sub-fill
 sub-fill c = search needs
 
--- src/lib.rt:28:10
 part-fill-start : tie.Need-part-fill-start
 part-fill-start c = search needs
 
--- src/lib.rt:28:10
 part-fill-end : tie.Need-part-fill-end
 part-fill-end c = search needs
 
--- src/lib.rt:28:5
 fill-requires : tie.Need-fill-requires
 fill-requires c κs = search needs
 
--- src/lib.rt:19:1
 same-length : tie.Need-same-length
 same-length c = search needs
 
--- src/lib.rt:19:1
 returns-2 : tie.Need-returns-2
 returns-2 c =
     let a = c .before .before .before .before .before .before .before .args in

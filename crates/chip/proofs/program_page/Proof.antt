@@ -4,33 +4,24 @@ use borrow.Author.Needs.{needs}
 use Rattle.chip.proofs.Lent.{page-out, flash-out, window-out, page-done}
 use Rattle.chip.proofs.program_page.Statement.{statement}
 use Rattle.chip.proofs.program_page.Tie as tie
-use Rattle.chip.proofs.program_page.Reads as reads
-use Rattle.chip.proofs.program_page.Lts as lts
-use Rattle.buffers.proofs.and.Reads as and-reads
-use Rattle.units.proofs.Blocks.bytes.Reads as bytes-reads
 
--- src/lib.rt:37:17
 bytes-requires : tie.Need-bytes-requires
 bytes-requires c κs = search needs
 
--- src/lib.rt:38:15
 add-end : tie.Need-add-end
 add-end c = search needs
 
--- src/lib.rt:40:9
 returns : tie.Need-returns
 returns c =
     let a = c .before .before .before .before .args in
     page-out (a .block .0) (c .before .bytes .result .0) (a .flash .now) (c .before .bytes .ensures) (a .page) (a .window .now) (c .if1 .taken)
 
--- src/lib.rt:43:9
 returns-2 : tie.Need-returns-2
 returns-2 c =
     let a = c .before .before .before .before .before .args in
     let start = c .before .before .bytes in
     flash-out (a .block .0) (start .result .0) (a .flash .now) (start .ensures) (a .page) (a .window .now) (c .before .if1 .left) (c .if2 .taken)
 
--- src/lib.rt:46:9
 returns-3 : tie.Need-returns-3
 returns-3 c =
     let a = c .before .before .before .before .before .before .args in
@@ -38,51 +29,39 @@ returns-3 c =
     window-out (a .block .0) (start .result .0) (a .flash .now) (start .ensures) (a .page) (a .window .now)
     (c .before .before .if1 .left) (c .before .if2 .left) (c .if3 .taken)
 
--- src/lib.rt:48:24
 mul-from : tie.Need-mul-from
 mul-from c = search needs
 
--- src/lib.rt:48:16
 add-from : tie.Need-add-from
 add-from c = search needs
 
--- src/lib.rt:49:14
 add-to : tie.Need-add-to
 add-to c = search needs
 
--- src/lib.rt:50:9
 sub-and : tie.Need-sub-and
 sub-and c = search needs
 
--- src/lib.rt:50:9
 part-and-start : tie.Need-part-and-start
 part-and-start c = search needs
 
--- src/lib.rt:50:9
 part-and-end : tie.Need-part-and-end
 part-and-end c = search needs
 
--- src/lib.rt:50:31
 sub-and-2 : tie.Need-sub-and-2
 sub-and-2 c = search needs
 
--- src/lib.rt:50:31
 part-and-start-2 : tie.Need-part-and-start-2
 part-and-start-2 c = search needs
 
--- src/lib.rt:50:31
 part-and-end-2 : tie.Need-part-and-end-2
 part-and-end-2 c = search needs
 
--- src/lib.rt:50:5
 and-requires : tie.Need-and-requires
 and-requires c κs = search needs
 
--- src/lib.rt:33:1
 same-length : tie.Need-same-length
 same-length c = search needs
 
--- src/lib.rt:33:1
 returns-4 : tie.Need-returns-4
 returns-4 c =
     let a = c .before .before .before .before .before .before .before .before .before .before .before .args in

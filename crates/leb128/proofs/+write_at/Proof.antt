@@ -1,7 +1,7 @@
 -- `leb128::write_at` meets its contract. It ends, since the number falls at each call.
 use native.Mathlib.Omega.{arith}
 use borrow.Author.Needs.{needs}
-use mathlib.Core.Path.{_≡_, sym, ap, _∙_}
+use mathlib.Core.Path.{sym, ap, _∙_}
 use mathlib.Core.List.{List}
 use Prim.Native.Nat.{ℕ, _+_, _%_, _<_}
 use lib.ListN.{set}
@@ -24,7 +24,6 @@ abbrev write-at-below : ℕ → In 1 write-at-kinds.ps
 write-at-below t =
     and 1 write-at-kinds.ps (falls 1 write-at-kinds.ps _<_ μ-write-at t) write-at.Pre
 
--- src/rt:87:9
 write-at-returns :
     (t : ℕ) →
     write-at-lts.Need-returns (write-at-below t, write-at.Post) (write-at-at t) write-at.Post
@@ -33,32 +32,27 @@ write-at-returns t c =
     let w = write-none (a .bytes .now) (a .at) (a .value) (c .if1 .taken) in
     (sym (w .0), sym (w .1))
 
--- src/rt:90:21
 write-at-cast-bytes :
     (t : ℕ) →
     write-at-lts.Need-cast-bytes (write-at-below t, write-at.Post) (write-at-at t) write-at.Post
 write-at-cast-bytes t c = search needs
 
--- src/rt:90:9
 write-at-slice-write-bytes : (t : ℕ) → write-at-lts.Need-slice-write-bytes (
   write-at-below t,
   write-at.Post,
 ) (write-at-at t) write-at.Post
 write-at-slice-write-bytes t c = search needs
 
--- src/rt:91:30
 write-at-add-t10 :
     (t : ℕ) →
     write-at-lts.Need-add-t10 (write-at-below t, write-at.Post) (write-at-at t) write-at.Post
 write-at-add-t10 t c = search needs
 
--- src/rt:91:9
 write-at-same-length :
     (t : ℕ) →
     write-at-lts.Need-same-length (write-at-below t, write-at.Post) (write-at-at t) write-at.Post
 write-at-same-length t c = search needs
 
--- src/rt:91:9
 write-at-returns-2 :
     (t : ℕ) →
     write-at-lts.Need-returns-2 (write-at-below t, write-at.Post) (write-at-at t) write-at.Post
@@ -67,59 +61,50 @@ write-at-returns-2 t c =
     let w = write-small (a .bytes .now) (a .at) (a .value) (c .before .if1 .left) (c .if2 .taken) in
     (sym (w .0), sym (w .1))
 
--- src/rt:93:32
 write-at-add-write-at :
     (t : ℕ) →
     write-at-lts.Need-add-write-at (write-at-below t, write-at.Post) (write-at-at t) write-at.Post
 write-at-add-write-at t c = search needs
 
--- src/rt:93:9
 write-at-write-at-requires : (t : ℕ) → write-at-lts.Need-write-at-requires (
   write-at-below t,
   write-at.Post,
 ) (write-at-at t) write-at.Post
 write-at-write-at-requires t c κs = (omega arith, tt)
 
--- src/rt:95:23
 write-at-enum-known-rest : (t : ℕ) → write-at-lts.Need-enum-known-rest (
   write-at-below t,
   write-at.Post,
 ) (write-at-at t) write-at.Post
 write-at-enum-known-rest t c = search needs
 
--- src/rt:96:25
 write-at-cast-bytes-2 :
     (t : ℕ) →
     write-at-lts.Need-cast-bytes-2 (write-at-below t, write-at.Post) (write-at-at t) write-at.Post
 write-at-cast-bytes-2 t c = search needs
 
--- src/rt:96:25
 write-at-add-bytes :
     (t : ℕ) →
     write-at-lts.Need-add-bytes (write-at-below t, write-at.Post) (write-at-at t) write-at.Post
 write-at-add-bytes t c = search needs
 
--- src/rt:96:13
 write-at-slice-write-bytes-2 : (t : ℕ) → write-at-lts.Need-slice-write-bytes-2 (
   write-at-below t,
   write-at.Post,
 ) (write-at-at t) write-at.Post
 write-at-slice-write-bytes-2 t c = search needs
 
--- src/rt:99:28
 write-at-enum-told :
     (t : ℕ) →
     write-at-lts.Need-enum-told (write-at-below t, write-at.Post) (write-at-at t) write-at.Post
 write-at-enum-told t c = search needs
 
--- src/rt:82:1
 write-at-same-length-2 : (t : ℕ) → write-at-lts.Need-same-length-2 (
   write-at-below t,
   write-at.Post,
 ) (write-at-at t) write-at.Post
 write-at-same-length-2 t c = search needs
 
--- src/rt:82:1
 write-at-returns-3 :
     (t : ℕ) →
     write-at-lts.Need-returns-3 (write-at-below t, write-at.Post) (write-at-at t) write-at.Post
@@ -129,14 +114,12 @@ write-at-returns-3 t c =
     let w = write-large (a .bytes .now) (a .at) (a .value) (omega arith) (omega arith) (sym (call .ensures .0) ∙ c .before .rest .given .1) in
     (sym (w .0), ap (λ (xs : List ℕ). set xs (a .at) (a .value % 128 + 128)) (call .ensures .1) ∙ sym (w .1))
 
--- src/rt:82:1
 write-at-same-length-3 : (t : ℕ) → write-at-lts.Need-same-length-3 (
   write-at-below t,
   write-at.Post,
 ) (write-at-at t) write-at.Post
 write-at-same-length-3 t c = search needs
 
--- src/rt:82:1
 write-at-returns-4 :
     (t : ℕ) →
     write-at-lts.Need-returns-4 (write-at-below t, write-at.Post) (write-at-at t) write-at.Post

@@ -1,5 +1,4 @@
 -- `leb128::last_group` meets its contract: every byte that was passed goes on.
-use mathlib.Core.Path.{_≡_}
 use Prim.Native.Nat.{ℕ, _≤_, _<_, _-_}
 use native.Mathlib.Omega.{arith}
 use borrow.Author.Needs.{needs}
@@ -7,8 +6,6 @@ use borrow.Author.Count.{below-more}
 use lib.ListN.{length, getD}
 use Rattle.leb128.proofs.last_group.Statement.{statement}
 use Rattle.leb128.proofs.last_group.Tie as tie
-use Rattle.leb128.proofs.last_group.Reads as reads
-use Rattle.leb128.proofs.last_group.Lts as lts
 
 abbrev Inv-loop : tie.InvT-loop
 Inv-loop bytes at i₀ i = (at ≤ i) × ((k : ℕ) → k < i → at ≤ k → (128 ≤ getD bytes k 0) × (k < length bytes))

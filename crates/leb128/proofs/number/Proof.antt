@@ -3,14 +3,12 @@ use mathlib.Core.Path.{_≡_, sym, ap, _∙_}
 use Prim.Native.Nat.{ℕ, _+_, _-_, _^_, _≤_, _<_}
 use native.Mathlib.Omega.{arith}
 use borrow.Author.Needs.{needs}
-use lib.ListN.{length, getD, drop}
+use lib.ListN.{getD, drop}
 use Rattle.leb128.specs.declared.Read.the-variants.{Number}
 use Rattle.leb128.specs.Groups.{decode}
 use Rattle.leb128.proofs.Decode.{decode-last, read-zero, read-large, read-more, read-whole}
 use Rattle.leb128.proofs.number.Statement.{statement}
 use Rattle.leb128.proofs.number.Tie as tie
-use Rattle.leb128.proofs.number.Reads as reads
-use Rattle.leb128.proofs.number.Lts as lts
 
 abbrev Inv-loop : tie.InvT-loop
 Inv-loop bytes at last i₀ value₀ i value =

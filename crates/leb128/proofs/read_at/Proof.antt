@@ -4,8 +4,6 @@ use borrow.Author.Needs.{needs}
 use Rattle.leb128.proofs.Decode.{read-short}
 use Rattle.leb128.proofs.read_at.Statement.{statement}
 use Rattle.leb128.proofs.read_at.Tie as tie
-use Rattle.leb128.proofs.read_at.Reads as reads
-use Rattle.leb128.proofs.read_at.Lts as lts
 
 last-group-requires : tie.Need-last-group-requires
 last-group-requires c κs = search needs

@@ -1,5 +1,5 @@
 -- `mailbox::command` meets its contract: each arm is what `answerTo` says of its reason.
-use mathlib.Core.Path.{_≡_, sym, ap, _∙_}
+use mathlib.Core.Path.{sym, ap, _∙_}
 use mathlib.Core.List.{[]}
 use borrow.Author.Needs.{needs}
 use Rattle.mailbox.specs.declared.refusals.Reason.{Reason}
@@ -10,84 +10,59 @@ use Rattle.mailbox.specs.Mediator.{numbered, answerTo}
 use Rattle.mailbox.proofs.Accepting.{mediate-as, argument-memory}
 use Rattle.mailbox.proofs.command.Statement.{statement}
 use Rattle.mailbox.proofs.command.Tie as tie
-use Rattle.mailbox.proofs.command.Reads as reads
-use Rattle.mailbox.proofs.command.Lts as lts
-use Rattle.mailbox.proofs.refusals.reason_for.Reads as reason-for-reads
-use Rattle.mailbox.proofs.refuse.Reads as refuse-reads
-use Rattle.mailbox.proofs.refuse_argument.Reads as refuse-argument-reads
-use Rattle.mailbox.proofs.refuse_numbered.Reads as refuse-numbered-reads
-use Rattle.mailbox.proofs.serve.Reads as serve-reads
 
--- src/lib.rt:61:9
 reason-for-requires : tie.Need-reason-for-requires
 reason-for-requires c κs = search needs
 
--- src/lib.rt:63:62
 enum-told : tie.Need-enum-told
 enum-told c = search needs
 
--- src/lib.rt:63:29
 serve-requires : tie.Need-serve-requires
 serve-requires c κs =
     sym (c .before .before .before .before .reason-for .ensures) ∙ c .before .before .enum-told .given .1
 
--- src/lib.rt:64:27
 enum-told-2 : tie.Need-enum-told-2
 enum-told-2 c = search needs
 
--- src/lib.rt:64:27
 refuse-requires : tie.Need-refuse-requires
 refuse-requires c κs = search needs
 
--- src/lib.rt:65:29
 enum-told-3 : tie.Need-enum-told-3
 enum-told-3 c = search needs
 
--- src/lib.rt:65:29
 refuse-numbered-requires : tie.Need-refuse-numbered-requires
 refuse-numbered-requires c κs = search needs
 
--- src/lib.rt:66:28
 enum-told-4 : tie.Need-enum-told-4
 enum-told-4 c = search needs
 
--- src/lib.rt:66:28
 refuse-numbered-requires-2 : tie.Need-refuse-numbered-requires-2
 refuse-numbered-requires-2 c κs = search needs
 
--- src/lib.rt:67:30
 enum-told-5 : tie.Need-enum-told-5
 enum-told-5 c = search needs
 
--- src/lib.rt:67:30
 refuse-numbered-requires-3 : tie.Need-refuse-numbered-requires-3
 refuse-numbered-requires-3 c κs = search needs
 
--- src/lib.rt:68:31
 enum-told-6 : tie.Need-enum-told-6
 enum-told-6 c = search needs
 
--- src/lib.rt:68:31
 refuse-numbered-requires-4 : tie.Need-refuse-numbered-requires-4
 refuse-numbered-requires-4 c κs = search needs
 
--- src/lib.rt:69:65
 enum-told-7 : tie.Need-enum-told-7
 enum-told-7 c = search needs
 
--- src/lib.rt:69:29
 refuse-argument-requires : tie.Need-refuse-argument-requires
 refuse-argument-requires c κs = search needs
 
--- src/lib.rt:50:1
 same-length : tie.Need-same-length
 same-length c = search needs
 
--- src/lib.rt:50:1
 same-length-2 : tie.Need-same-length-2
 same-length-2 c = search needs
 
--- src/lib.rt:50:1
 returns : tie.Need-returns
 unfolding answerTo
 returns c =
@@ -96,7 +71,6 @@ returns c =
     let call = c .before .before .before .before .serve in
     (call .ensures .0 ∙ ap (λ (r : Outcome). r .answer) (sym e), call .ensures .1 ∙ ap (λ (r : Outcome). r .flash) (sym e), call .ensures .2 ∙ ap (λ (r : Outcome). r .memory) (sym e))
 
--- src/lib.rt:50:1
 returns-2 : tie.Need-returns-2
 unfolding answerTo
 returns-2 c =
@@ -104,7 +78,6 @@ returns-2 c =
     let e = mediate-as (a .board) (a .session) (a .registers) (a .flash .now) (a .memory .now) System (sym (c .before .before .before .reason-for .ensures) ∙ c .before .enum-told2 .given .1) in
     (c .refuse .ensures ∙ ap (λ (r : Outcome). r .answer) (sym e), ap (λ (r : Outcome). r .flash) (sym e), ap (λ (r : Outcome). r .memory) (sym e))
 
--- src/lib.rt:50:1
 returns-3 : tie.Need-returns-3
 unfolding answerTo
 returns-3 c =
@@ -112,7 +85,6 @@ returns-3 c =
     let e = mediate-as (a .board) (a .session) (a .registers) (a .flash .now) (a .memory .now) Repeated (sym (c .before .before .before .reason-for .ensures) ∙ c .before .enum-told3 .given .1) in
     (c .refuse-numbered .ensures ∙ ap (λ (r : Reason). answered (numbered (a .session) (a .registers)) (a .registers) (codeFor (a .session .version) r) [] 0) (c .before .enum-told3 .given .1) ∙ ap (λ (r : Outcome). r .answer) (sym e), ap (λ (r : Outcome). r .flash) (sym e), ap (λ (r : Outcome). r .memory) (sym e))
 
--- src/lib.rt:50:1
 returns-4 : tie.Need-returns-4
 unfolding answerTo
 returns-4 c =
@@ -120,7 +92,6 @@ returns-4 c =
     let e = mediate-as (a .board) (a .session) (a .registers) (a .flash .now) (a .memory .now) Unknown (sym (c .before .before .before .reason-for .ensures) ∙ c .before .enum-told4 .given .1) in
     (c .refuse-numbered2 .ensures ∙ ap (λ (r : Reason). answered (numbered (a .session) (a .registers)) (a .registers) (codeFor (a .session .version) r) [] 0) (c .before .enum-told4 .given .1) ∙ ap (λ (r : Outcome). r .answer) (sym e), ap (λ (r : Outcome). r .flash) (sym e), ap (λ (r : Outcome). r .memory) (sym e))
 
--- src/lib.rt:50:1
 returns-5 : tie.Need-returns-5
 unfolding answerTo
 returns-5 c =
@@ -128,7 +99,6 @@ returns-5 c =
     let e = mediate-as (a .board) (a .session) (a .registers) (a .flash .now) (a .memory .now) Suspended (sym (c .before .before .before .reason-for .ensures) ∙ c .before .enum-told5 .given .1) in
     (c .refuse-numbered3 .ensures ∙ ap (λ (r : Reason). answered (numbered (a .session) (a .registers)) (a .registers) (codeFor (a .session .version) r) [] 0) (c .before .enum-told5 .given .1) ∙ ap (λ (r : Outcome). r .answer) (sym e), ap (λ (r : Outcome). r .flash) (sym e), ap (λ (r : Outcome). r .memory) (sym e))
 
--- src/lib.rt:50:1
 returns-6 : tie.Need-returns-6
 unfolding answerTo
 returns-6 c =
@@ -136,15 +106,12 @@ returns-6 c =
     let e = mediate-as (a .board) (a .session) (a .registers) (a .flash .now) (a .memory .now) Windowless (sym (c .before .before .before .reason-for .ensures) ∙ c .before .enum-told6 .given .1) in
     (c .refuse-numbered4 .ensures ∙ ap (λ (r : Reason). answered (numbered (a .session) (a .registers)) (a .registers) (codeFor (a .session .version) r) [] 0) (c .before .enum-told6 .given .1) ∙ ap (λ (r : Outcome). r .answer) (sym e), ap (λ (r : Outcome). r .flash) (sym e), ap (λ (r : Outcome). r .memory) (sym e))
 
--- src/lib.rt:50:1
 same-length-3 : tie.Need-same-length-3
 same-length-3 c = search needs
 
--- src/lib.rt:50:1
 same-length-4 : tie.Need-same-length-4
 same-length-4 c = search needs
 
--- src/lib.rt:50:1
 returns-7 : tie.Need-returns-7
 unfolding answerTo
 returns-7 c =

@@ -7,7 +7,7 @@ use native.Mathlib.Omega.{arith}
 use borrow.Author.Needs.{needs}
 use lib.Dec.{lit≤}
 use lib.ListN.{length}
-use Rattle.units.specs.Units.{toBytes, roundUp}
+use Rattle.units.specs.Units.{roundUp}
 use Rattle.units.proofs.Rounding.{exact-few}
 use Rattle.session.specs.declared.Session.{Session}
 use Rattle.session.specs.declared.Window.the-variants.{Read, Write}
@@ -17,71 +17,49 @@ use Rattle.mailbox.specs.Mediator.{numbered, leaving, served}
 use Rattle.mailbox.proofs.Accepting.{passed, measured, named-within, create-argument, mark-argument, flush-argument, last-known}
 use Rattle.mailbox.proofs.serve.Statement.{statement}
 use Rattle.mailbox.proofs.serve.Tie as tie
-use Rattle.mailbox.proofs.serve.Reads as reads
-use Rattle.mailbox.proofs.serve.Lts as lts
-use Rattle.mailbox.proofs.info.get_flash_info.Reads as get-flash-info-reads
-use Rattle.mailbox.proofs.info.get_info.Reads as get-info-reads
-use Rattle.mailbox.proofs.marks.acknowledge.Reads as acknowledge-reads
-use Rattle.mailbox.proofs.marks.erase.Reads as erase-reads
-use Rattle.mailbox.proofs.marks.flush.Reads as flush-reads
-use Rattle.mailbox.proofs.marks.mark_dirty.Reads as mark-dirty-reads
-use Rattle.mailbox.proofs.windows.close_window.Reads as close-window-reads
-use Rattle.mailbox.proofs.windows.create_window.Reads as create-window-reads
-use Rattle.mailbox.proofs.windows.reset.Reads as reset-reads
-use Rattle.mailbox.proofs.with_number.Reads as with-number-reads
-use Rattle.units.proofs.Bytes.blocks.Reads as blocks-reads
 
--- src/lib.rt:86:9
 with-number-requires : tie.Need-with-number-requires
 with-number-requires c κs = search needs
 
--- src/lib.rt:87:16
 array-read-code : tie.Need-array-read-code
 array-read-code c = search needs
 
--- src/lib.rt:89:14
 reset-requires : tie.Need-reset-requires
 reset-requires c κs = search needs
 
--- src/lib.rt:94:13
 blocks-requires : tie.Need-blocks-requires
 blocks-requires c κs = search needs
 
--- src/lib.rt:90:14
 get-info-requires : tie.Need-get-info-requires
 get-info-requires c κs = search needs
 
--- src/lib.rt:96:46
 blocks-requires-2 : tie.Need-blocks-requires-2
 blocks-requires-2 c κs = search needs
 
--- src/lib.rt:96:14
 get-flash-info-requires : tie.Need-get-flash-info-requires
 get-flash-info-requires c κs = search needs
 
--- src/lib.rt:97:14
 create-window-requires : tie.Need-create-window-requires
 create-window-requires c κs =
     let a = c .before .before .before .before .before .before .args in
     let p = passed (a .board) (a .session) (a .t2) (length (a .flash .now)) (length (a .memory .now)) (c .before .before .before .before .before .before .pre) in
-    let m = measured (a .board .lpc) (length (a .flash .now)) (length (a .memory .now)) (a .session) (p .sounds) in
-    ( create-argument (a .session) (a .t2) (roundUp (length (a .flash .now))) (p .argued) 4 (inl refl) (c .before .before .match .keys4)
-    , ((m .flash-sized .whole, m .flash-sized .few), (m .memory-sized .whole, m .memory-sized .few)))
+    let m = measured (a .board .lpc) (length (a .flash .now)) (length (a .memory .now)) (a .session) (p .sounds) in (
+      create-argument (a .session) (a .t2) (roundUp (length (a .flash .now))) (p .argued) 4 (inl refl) (c .before .before .match .keys4),
+      ((m .flash-sized .whole, m .flash-sized .few), (m .memory-sized .whole, m .memory-sized .few)),
+    )
 
--- src/lib.rt:98:14
 close-window-requires : tie.Need-close-window-requires
 close-window-requires c κs = search needs
 
--- src/lib.rt:99:14
 create-window-requires-2 : tie.Need-create-window-requires-2
 create-window-requires-2 c κs =
     let a = c .before .before .before .before .before .before .args in
     let p = passed (a .board) (a .session) (a .t2) (length (a .flash .now)) (length (a .memory .now)) (c .before .before .before .before .before .before .pre) in
-    let m = measured (a .board .lpc) (length (a .flash .now)) (length (a .memory .now)) (a .session) (p .sounds) in
-    ( create-argument (a .session) (a .t2) (roundUp (length (a .flash .now))) (p .argued) 6 (inr refl) (c .before .before .match .keys6)
-    , ((m .flash-sized .whole, m .flash-sized .few), (m .memory-sized .whole, m .memory-sized .few)))
+    let m = measured (a .board .lpc) (length (a .flash .now)) (length (a .memory .now)) (a .session) (p .sounds) in (
+      create-argument (a .session) (a .t2) (roundUp (length (a .flash .now))) (p .argued) 6 (inr refl) (c .before .before .match .keys6),
+      ((m .flash-sized .whole, m .flash-sized .few), (m .memory-sized .whole, m .memory-sized .few)),
+    )
 
--- src/lib.rt:100:14
 mark-dirty-requires : tie.Need-mark-dirty-requires
 mark-dirty-requires c κs =
     let a = c .before .before .before .before .args in
@@ -90,7 +68,6 @@ mark-dirty-requires c κs =
     let w = named-within (a .session) (a .t2) (mark-argument (a .session) (a .t2) (roundUp (length (a .flash .now))) (p .argued) 7 (inl refl) (c .match .keys7)) in
     rw (c .before .with-number .ensures) (le-trans w (le-trans (m .fits .in-memory) (m .memory-sized .few)))
 
--- src/lib.rt:101:14
 flush-requires : tie.Need-flush-requires
 flush-requires c κs =
     let a = c .before .before .before .before .before .before .args in
@@ -100,23 +77,21 @@ flush-requires c κs =
     (λ t. le-trans (named-within (a .session) (a .t2) (flush-argument (a .session) (a .t2) (roundUp (length (a .flash .now))) (p .argued) (c .before .before .match .keys8) t))
     (le-trans (m .fits .in-memory) (m .memory-sized .few)))
 
--- src/lib.rt:102:14
 acknowledge-requires : tie.Need-acknowledge-requires
 acknowledge-requires c κs = search needs
 
--- src/lib.rt:103:14
 erase-requires : tie.Need-erase-requires
 erase-requires c κs =
     let a = c .before .before .before .before .before .args in
     let p = passed (a .board) (a .session) (a .t2) (length (a .flash .now)) (length (a .memory .now)) (c .before .before .before .before .before .pre) in
     let m = measured (a .board .lpc) (length (a .flash .now)) (length (a .memory .now)) (a .session) (p .sounds) in
-    let ten : commandOf (a .t2) ≡ 10 = last-known (a .session .version) (commandOf (a .t2)) (p .knows) (c .before .match .rest .0 .0 .0 .0 .0 .0 .0 .0 .1) (c .before .match .rest .0 .0 .0 .0 .0 .0 .0 .1) (c .before .match .rest .0 .0 .0 .0 .0 .0 .1) (c .before .match .rest .0 .0 .0 .0 .0 .1) (c .before .match .rest .0 .0 .0 .0 .1) (c .before .match .rest .0 .0 .0 .1) (c .before .match .rest .0 .0 .1) (c .before .match .rest .0 .1) (c .before .match .rest  .1) in
+    let ten : commandOf (a .t2) ≡ 10 = last-known (a .session .version) (commandOf (a .t2)) (p .knows) (c .before .match .rest .0 .0 .0 .0 .0 .0 .0 .0 .1) (c .before .match .rest .0 .0 .0 .0 .0 .0 .0 .1) (c .before .match .rest .0 .0 .0 .0 .0 .0 .1) (c .before .match .rest .0 .0 .0 .0 .0 .1) (c .before .match .rest .0 .0 .0 .0 .1) (c .before .match .rest .0 .0 .0 .1) (c .before .match .rest .0 .0 .1) (c .before .match .rest .0 .1) (c .before .match .rest .1) in
     let w = named-within (a .session) (a .t2) (mark-argument (a .session) (a .t2) (roundUp (length (a .flash .now))) (p .argued) 10 (inr refl) ten) in
-    rw (c .before .before .with-number .ensures)
-    ( le-trans w (le-trans (m .fits .in-memory) (m .memory-sized .few))
-    , omega (arith, w, m .fits .in-memory, m .memory-sized .whole))
+    rw (c .before .before .with-number .ensures) (
+      le-trans w (le-trans (m .fits .in-memory) (m .memory-sized .few)),
+      omega (arith, w, m .fits .in-memory, m .memory-sized .whole),
+    )
 
--- src/lib.rt:74:1
 returns : tie.Need-returns
 unfolding served
 returns c =
@@ -124,12 +99,12 @@ returns c =
     let next = c .before .before .with-number in
     let s = numbered (a .session) (a .t2) in
     let e : served (commandOf (a .t2)) (a .board) s (a .t2) (a .flash .now) (a .memory .now) ≡ leaving (resetAnswer s (a .t2)) (a .flash .now) (a .memory .now) =
-        ap (λ (k : ℕ). served k (a .board) s (a .t2) (a .flash .now) (a .memory .now)) (c .before .match .keys1) in
-    ( c .reset .ensures ∙ ap (λ (t : Session). resetAnswer t (a .t2)) (next .ensures) ∙ ap (λ (r : Outcome). r .answer) (sym e)
-    , ap (λ (r : Outcome). r .flash) (sym e)
-    , ap (λ (r : Outcome). r .memory) (sym e))
+    ap (λ (k : ℕ). served k (a .board) s (a .t2) (a .flash .now) (a .memory .now)) (c .before .match .keys1) in (
+      c .reset .ensures ∙ ap (λ (t : Session). resetAnswer t (a .t2)) (next .ensures) ∙ ap (λ (r : Outcome). r .answer) (sym e),
+      ap (λ (r : Outcome). r .flash) (sym e),
+      ap (λ (r : Outcome). r .memory) (sym e),
+    )
 
--- src/lib.rt:74:1
 returns-2 : tie.Need-returns-2
 unfolding served
 returns-2 c =
@@ -139,12 +114,12 @@ returns-2 c =
     let next = c .before .before .before .with-number in
     let s = numbered (a .session) (a .t2) in
     let e : served (commandOf (a .t2)) (a .board) s (a .t2) (a .flash .now) (a .memory .now) ≡ leaving (infoAnswer (a .board) s (a .t2) (roundUp (length (a .memory .now)))) (a .flash .now) (a .memory .now) =
-        ap (λ (k : ℕ). served k (a .board) s (a .t2) (a .flash .now) (a .memory .now)) (c .before .before .match .keys2) in
-    ( c .get-info .ensures ∙ ap (λ (t : Session). infoAnswer (a .board) t (a .t2) (c .before .blocks2 .result .0)) (next .ensures) ∙ ap (infoAnswer (a .board) s (a .t2)) (c .before .blocks2 .ensures ∙ exact-few (length (a .memory .now)) (le-trans (m .memory-sized .few) (lit≤ tt))) ∙ ap (λ (r : Outcome). r .answer) (sym e)
-    , ap (λ (r : Outcome). r .flash) (sym e)
-    , ap (λ (r : Outcome). r .memory) (sym e))
+    ap (λ (k : ℕ). served k (a .board) s (a .t2) (a .flash .now) (a .memory .now)) (c .before .before .match .keys2) in (
+      c .get-info .ensures ∙ ap (λ (t : Session). infoAnswer (a .board) t (a .t2) (c .before .blocks2 .result .0)) (next .ensures) ∙ ap (infoAnswer (a .board) s (a .t2)) (c .before .blocks2 .ensures ∙ exact-few (length (a .memory .now)) (le-trans (m .memory-sized .few) (lit≤ tt))) ∙ ap (λ (r : Outcome). r .answer) (sym e),
+      ap (λ (r : Outcome). r .flash) (sym e),
+      ap (λ (r : Outcome). r .memory) (sym e),
+    )
 
--- src/lib.rt:74:1
 returns-3 : tie.Need-returns-3
 unfolding served
 returns-3 c =
@@ -154,20 +129,18 @@ returns-3 c =
     let next = c .before .before .before .with-number in
     let s = numbered (a .session) (a .t2) in
     let e : served (commandOf (a .t2)) (a .board) s (a .t2) (a .flash .now) (a .memory .now) ≡ leaving (flashInfoAnswer s (a .t2) (roundUp (length (a .flash .now)))) (a .flash .now) (a .memory .now) =
-        ap (λ (k : ℕ). served k (a .board) s (a .t2) (a .flash .now) (a .memory .now)) (c .before .before .match .keys3) in
-    ( c .get-flash-info .ensures ∙ ap (λ (t : Session). flashInfoAnswer t (a .t2) (c .before .blocks3 .result .0)) (next .ensures) ∙ ap (flashInfoAnswer s (a .t2)) (c .before .blocks3 .ensures ∙ exact-few (length (a .flash .now)) (m .flash-sized .few)) ∙ ap (λ (r : Outcome). r .answer) (sym e)
-    , ap (λ (r : Outcome). r .flash) (sym e)
-    , ap (λ (r : Outcome). r .memory) (sym e))
+    ap (λ (k : ℕ). served k (a .board) s (a .t2) (a .flash .now) (a .memory .now)) (c .before .before .match .keys3) in (
+      c .get-flash-info .ensures ∙ ap (λ (t : Session). flashInfoAnswer t (a .t2) (c .before .blocks3 .result .0)) (next .ensures) ∙ ap (flashInfoAnswer s (a .t2)) (c .before .blocks3 .ensures ∙ exact-few (length (a .flash .now)) (m .flash-sized .few)) ∙ ap (λ (r : Outcome). r .answer) (sym e),
+      ap (λ (r : Outcome). r .flash) (sym e),
+      ap (λ (r : Outcome). r .memory) (sym e),
+    )
 
--- src/lib.rt:74:1
 same-length : tie.Need-same-length
 same-length c = search needs
 
--- src/lib.rt:74:1
 same-length-2 : tie.Need-same-length-2
 same-length-2 c = search needs
 
--- src/lib.rt:74:1
 returns-4 : tie.Need-returns-4
 unfolding served
 returns-4 c =
@@ -175,22 +148,20 @@ returns-4 c =
     let next = c .before .before .before .before .before .before .before .before .with-number in
     let s = numbered (a .session) (a .t2) in
     let e : served (commandOf (a .t2)) (a .board) s (a .t2) (a .flash .now) (a .memory .now) ≡ created Read (a .board) s (a .t2) (a .flash .now) (a .memory .now) =
-        ap (λ (k : ℕ). served k (a .board) s (a .t2) (a .flash .now) (a .memory .now)) (c .before .before .before .before .before .before .before .match .keys4) in
+    ap (λ (k : ℕ). served k (a .board) s (a .t2) (a .flash .now) (a .memory .now)) (c .before .before .before .before .before .before .before .match .keys4) in
     let n = ap (λ (t : Session). created Read (a .board) t (a .t2) (a .flash .now) (a .memory .now)) (next .ensures) ∙ sym e in
-    let call = c .before .before .before .before .create-window in
-    ( call .ensures .0 ∙ ap (λ (r : Outcome). r .answer) n
-    , call .ensures .1 ∙ ap (λ (r : Outcome). r .flash) n
-    , call .ensures .2 ∙ ap (λ (r : Outcome). r .memory) n)
+    let call = c .before .before .before .before .create-window in (
+      call .ensures .0 ∙ ap (λ (r : Outcome). r .answer) n,
+      call .ensures .1 ∙ ap (λ (r : Outcome). r .flash) n,
+      call .ensures .2 ∙ ap (λ (r : Outcome). r .memory) n,
+    )
 
--- src/lib.rt:74:1
 same-length-3 : tie.Need-same-length-3
 same-length-3 c = search needs
 
--- src/lib.rt:74:1
 same-length-4 : tie.Need-same-length-4
 same-length-4 c = search needs
 
--- src/lib.rt:74:1
 returns-5 : tie.Need-returns-5
 unfolding served
 returns-5 c =
@@ -198,22 +169,20 @@ returns-5 c =
     let next = c .before .before .before .before .before .before .with-number in
     let s = numbered (a .session) (a .t2) in
     let e : served (commandOf (a .t2)) (a .board) s (a .t2) (a .flash .now) (a .memory .now) ≡ closed s (a .t2) (a .flash .now) (a .memory .now) =
-        ap (λ (k : ℕ). served k (a .board) s (a .t2) (a .flash .now) (a .memory .now)) (c .before .before .before .before .before .match .keys5) in
+    ap (λ (k : ℕ). served k (a .board) s (a .t2) (a .flash .now) (a .memory .now)) (c .before .before .before .before .before .match .keys5) in
     let n = ap (λ (t : Session). closed t (a .t2) (a .flash .now) (a .memory .now)) (next .ensures) ∙ sym e in
-    let call = c .before .before .close-window in
-    ( call .ensures .0 ∙ ap (λ (r : Outcome). r .answer) n
-    , call .ensures .1 ∙ ap (λ (r : Outcome). r .flash) n
-    , ap (λ (r : Outcome). r .memory) (sym e))
+    let call = c .before .before .close-window in (
+      call .ensures .0 ∙ ap (λ (r : Outcome). r .answer) n,
+      call .ensures .1 ∙ ap (λ (r : Outcome). r .flash) n,
+      ap (λ (r : Outcome). r .memory) (sym e),
+    )
 
--- src/lib.rt:74:1
 same-length-5 : tie.Need-same-length-5
 same-length-5 c = search needs
 
--- src/lib.rt:74:1
 same-length-6 : tie.Need-same-length-6
 same-length-6 c = search needs
 
--- src/lib.rt:74:1
 returns-6 : tie.Need-returns-6
 unfolding served
 returns-6 c =
@@ -221,14 +190,14 @@ returns-6 c =
     let next = c .before .before .before .before .before .before .before .before .with-number in
     let s = numbered (a .session) (a .t2) in
     let e : served (commandOf (a .t2)) (a .board) s (a .t2) (a .flash .now) (a .memory .now) ≡ created Write (a .board) s (a .t2) (a .flash .now) (a .memory .now) =
-        ap (λ (k : ℕ). served k (a .board) s (a .t2) (a .flash .now) (a .memory .now)) (c .before .before .before .before .before .before .before .match .keys6) in
+    ap (λ (k : ℕ). served k (a .board) s (a .t2) (a .flash .now) (a .memory .now)) (c .before .before .before .before .before .before .before .match .keys6) in
     let n = ap (λ (t : Session). created Write (a .board) t (a .t2) (a .flash .now) (a .memory .now)) (next .ensures) ∙ sym e in
-    let call = c .before .before .before .before .create-window2 in
-    ( call .ensures .0 ∙ ap (λ (r : Outcome). r .answer) n
-    , call .ensures .1 ∙ ap (λ (r : Outcome). r .flash) n
-    , call .ensures .2 ∙ ap (λ (r : Outcome). r .memory) n)
+    let call = c .before .before .before .before .create-window2 in (
+      call .ensures .0 ∙ ap (λ (r : Outcome). r .answer) n,
+      call .ensures .1 ∙ ap (λ (r : Outcome). r .flash) n,
+      call .ensures .2 ∙ ap (λ (r : Outcome). r .memory) n,
+    )
 
--- src/lib.rt:74:1
 returns-7 : tie.Need-returns-7
 unfolding served
 returns-7 c =
@@ -236,20 +205,18 @@ returns-7 c =
     let next = c .before .before .with-number in
     let s = numbered (a .session) (a .t2) in
     let e : served (commandOf (a .t2)) (a .board) s (a .t2) (a .flash .now) (a .memory .now) ≡ leaving (dirtyAnswer s (a .t2)) (a .flash .now) (a .memory .now) =
-        ap (λ (k : ℕ). served k (a .board) s (a .t2) (a .flash .now) (a .memory .now)) (c .before .match .keys7) in
-    ( c .mark-dirty .ensures ∙ ap (λ (t : Session). dirtyAnswer t (a .t2)) (next .ensures) ∙ ap (λ (r : Outcome). r .answer) (sym e)
-    , ap (λ (r : Outcome). r .flash) (sym e)
-    , ap (λ (r : Outcome). r .memory) (sym e))
+    ap (λ (k : ℕ). served k (a .board) s (a .t2) (a .flash .now) (a .memory .now)) (c .before .match .keys7) in (
+      c .mark-dirty .ensures ∙ ap (λ (t : Session). dirtyAnswer t (a .t2)) (next .ensures) ∙ ap (λ (r : Outcome). r .answer) (sym e),
+      ap (λ (r : Outcome). r .flash) (sym e),
+      ap (λ (r : Outcome). r .memory) (sym e),
+    )
 
--- src/lib.rt:74:1
 same-length-7 : tie.Need-same-length-7
 same-length-7 c = search needs
 
--- src/lib.rt:74:1
 same-length-8 : tie.Need-same-length-8
 same-length-8 c = search needs
 
--- src/lib.rt:74:1
 returns-8 : tie.Need-returns-8
 unfolding served
 returns-8 c =
@@ -257,14 +224,14 @@ returns-8 c =
     let next = c .before .before .before .before .before .before .with-number in
     let s = numbered (a .session) (a .t2) in
     let e : served (commandOf (a .t2)) (a .board) s (a .t2) (a .flash .now) (a .memory .now) ≡ flushed s (a .t2) (a .flash .now) (a .memory .now) =
-        ap (λ (k : ℕ). served k (a .board) s (a .t2) (a .flash .now) (a .memory .now)) (c .before .before .before .before .before .match .keys8) in
+    ap (λ (k : ℕ). served k (a .board) s (a .t2) (a .flash .now) (a .memory .now)) (c .before .before .before .before .before .match .keys8) in
     let n = ap (λ (t : Session). flushed t (a .t2) (a .flash .now) (a .memory .now)) (next .ensures) ∙ sym e in
-    let call = c .before .before .flush in
-    ( call .ensures .0 ∙ ap (λ (r : Outcome). r .answer) n
-    , call .ensures .1 ∙ ap (λ (r : Outcome). r .flash) n
-    , ap (λ (r : Outcome). r .memory) (sym e))
+    let call = c .before .before .flush in (
+      call .ensures .0 ∙ ap (λ (r : Outcome). r .answer) n,
+      call .ensures .1 ∙ ap (λ (r : Outcome). r .flash) n,
+      ap (λ (r : Outcome). r .memory) (sym e),
+    )
 
--- src/lib.rt:74:1
 returns-9 : tie.Need-returns-9
 unfolding served
 returns-9 c =
@@ -272,16 +239,15 @@ returns-9 c =
     let next = c .before .before .with-number in
     let s = numbered (a .session) (a .t2) in
     let e : served (commandOf (a .t2)) (a .board) s (a .t2) (a .flash .now) (a .memory .now) ≡ leaving (ackAnswer s (a .t2)) (a .flash .now) (a .memory .now) =
-        ap (λ (k : ℕ). served k (a .board) s (a .t2) (a .flash .now) (a .memory .now)) (c .before .match .keys9) in
-    ( c .acknowledge .ensures ∙ ap (λ (t : Session). ackAnswer t (a .t2)) (next .ensures) ∙ ap (λ (r : Outcome). r .answer) (sym e)
-    , ap (λ (r : Outcome). r .flash) (sym e)
-    , ap (λ (r : Outcome). r .memory) (sym e))
+    ap (λ (k : ℕ). served k (a .board) s (a .t2) (a .flash .now) (a .memory .now)) (c .before .match .keys9) in (
+      c .acknowledge .ensures ∙ ap (λ (t : Session). ackAnswer t (a .t2)) (next .ensures) ∙ ap (λ (r : Outcome). r .answer) (sym e),
+      ap (λ (r : Outcome). r .flash) (sym e),
+      ap (λ (r : Outcome). r .memory) (sym e),
+    )
 
--- src/lib.rt:74:1
 same-length-9 : tie.Need-same-length-9
 same-length-9 c = search needs
 
--- src/lib.rt:74:1
 returns-10 : tie.Need-returns-10
 unfolding served
 returns-10 c =
@@ -290,14 +256,15 @@ returns-10 c =
     let m = measured (a .board .lpc) (length (a .flash .now)) (length (a .memory .now)) (a .session) (p .sounds) in
     let next = c .before .before .before .before .before .with-number in
     let s = numbered (a .session) (a .t2) in
-    let ten : commandOf (a .t2) ≡ 10 = last-known (a .session .version) (commandOf (a .t2)) (p .knows) (c .before .before .before .before .match .rest .0 .0 .0 .0 .0 .0 .0 .0 .1) (c .before .before .before .before .match .rest .0 .0 .0 .0 .0 .0 .0 .1) (c .before .before .before .before .match .rest .0 .0 .0 .0 .0 .0 .1) (c .before .before .before .before .match .rest .0 .0 .0 .0 .0 .1) (c .before .before .before .before .match .rest .0 .0 .0 .0 .1) (c .before .before .before .before .match .rest .0 .0 .0 .1) (c .before .before .before .before .match .rest .0 .0 .1) (c .before .before .before .before .match .rest .0 .1) (c .before .before .before .before .match .rest  .1) in
+    let ten : commandOf (a .t2) ≡ 10 = last-known (a .session .version) (commandOf (a .t2)) (p .knows) (c .before .before .before .before .match .rest .0 .0 .0 .0 .0 .0 .0 .0 .1) (c .before .before .before .before .match .rest .0 .0 .0 .0 .0 .0 .0 .1) (c .before .before .before .before .match .rest .0 .0 .0 .0 .0 .0 .1) (c .before .before .before .before .match .rest .0 .0 .0 .0 .0 .1) (c .before .before .before .before .match .rest .0 .0 .0 .0 .1) (c .before .before .before .before .match .rest .0 .0 .0 .1) (c .before .before .before .before .match .rest .0 .0 .1) (c .before .before .before .before .match .rest .0 .1) (c .before .before .before .before .match .rest .1) in
     let e : served (commandOf (a .t2)) (a .board) s (a .t2) (a .flash .now) (a .memory .now) ≡ erasedOutcome s (a .t2) (a .flash .now) (a .memory .now) =
-        ap (λ (k : ℕ). served k (a .board) s (a .t2) (a .flash .now) (a .memory .now)) ten in
+    ap (λ (k : ℕ). served k (a .board) s (a .t2) (a .flash .now) (a .memory .now)) ten in
     let n = ap (λ (t : Session). erasedOutcome t (a .t2) (a .flash .now) (a .memory .now)) (next .ensures) ∙ sym e in
-    let call = c .before .before .erase in
-    ( call .ensures .0 ∙ ap (λ (r : Outcome). r .answer) n
-    , ap (λ (r : Outcome). r .flash) n
-    , call .ensures .1 ∙ ap (λ (r : Outcome). r .memory) n)
+    let call = c .before .before .erase in (
+      call .ensures .0 ∙ ap (λ (r : Outcome). r .answer) n,
+      ap (λ (r : Outcome). r .flash) n,
+      call .ensures .1 ∙ ap (λ (r : Outcome). r .memory) n,
+    )
 
 pub serve-spec : {M : Type 1} → statement M
 serve-spec =

@@ -6,8 +6,6 @@ use borrow.Author.Needs.{needs}
 use lib.ListN.{length}
 use Rattle.vectors.proofs.count.Statement.{statement}
 use Rattle.vectors.proofs.count.Tie as tie
-use Rattle.vectors.proofs.count.Reads as reads
-use Rattle.vectors.proofs.count.Lts as lts
 
 abbrev Inv-loop : tie.InvT-loop
 Inv-loop part value n₀ i₀ n i = (n ≤ i) × (i ≤ length part)
@@ -15,31 +13,24 @@ Inv-loop part value n₀ i₀ n i = (n ≤ i) × (i ≤ length part)
 abbrev μ-loop : tie.MeasureT-loop
 μ-loop part value n₀ i₀ n i = length part - i
 
--- src/main.rt:108:5
 loop-holds : tie.Need-loop-holds Inv-loop μ-loop
 loop-holds c = search needs
 
--- src/main.rt:109:12
 shared-slice-read-if1 : tie.Need-shared-slice-read-if1 Inv-loop μ-loop
 shared-slice-read-if1 c = search needs
 
--- src/main.rt:110:13
 add-n : tie.Need-add-n Inv-loop μ-loop
 add-n c = search needs
 
--- src/main.rt:112:9
 add-i : tie.Need-add-i Inv-loop μ-loop
 add-i c = search needs
 
--- src/main.rt:108:5
 loop-less : tie.Need-loop-less Inv-loop μ-loop
 loop-less c = search needs
 
--- src/main.rt:108:5
 loop-again : tie.Need-loop-again Inv-loop μ-loop
 loop-again c = ⊎-elim (λ w. omega arith) (λ w. omega arith) (c .if1 .came)
 
--- src/main.rt:105:1
 returns : tie.Need-returns Inv-loop μ-loop
 returns c = search needs
 

@@ -1,37 +1,27 @@
 -- `flush::marked::act` meets its contract.
-use mathlib.Core.Path.{_≡_, refl, sym, ap, _∙_}
-use mathlib.Core.List.{List, [], _∷_, _++_}
-use Prim.Native.Nat.{ℕ, suc, _+_, _-_, _*_, _≤_, _<_}
+use mathlib.Core.Path.{_≡_, sym, ap, _∙_}
+use mathlib.Core.List.{[], _∷_}
+use Prim.Native.Nat.{ℕ, suc, _-_}
 use native.Mathlib.Omega.{arith}
 use borrow.Author.Needs.{needs}
-use lib.ListN.{length, getD, take, drop}
-use Rattle.flush.specs.Actions.{Action, erase, program, pagesFrom, blockActions, flushActions, perform, performAll}
+use Rattle.flush.specs.Actions.{program, performAll}
 use Rattle.flush.specs.Locate.{nthOf}
 use Rattle.flush.proofs.Lists.{perform-one, erase-is, program-is}
 use Rattle.flush.proofs.marked.act.Statement.{statement}
 use Rattle.flush.proofs.marked.act.Tie as tie
-use Rattle.flush.proofs.marked.act.Reads as reads
-use Rattle.flush.proofs.marked.act.Lts as lts
-use Rattle.chip.proofs.erase_block.Reads as erase-block-reads
-use Rattle.chip.proofs.program_page.Reads as program-page-reads
 
--- src/marked.rt:88:9
 erase-block-requires : tie.Need-erase-block-requires
 erase-block-requires c κs = search needs
 
--- src/marked.rt:90:43
 sub-program-page : tie.Need-sub-program-page
 sub-program-page c = search needs
 
--- src/marked.rt:90:9
 program-page-requires : tie.Need-program-page-requires
 program-page-requires c κs = search needs
 
--- src/marked.rt:84:1
 same-length : tie.Need-same-length
 same-length c = search needs
 
--- src/marked.rt:84:1
 returns : tie.Need-returns
 returns c =
     let a = c .before .before .before .before .before .before .before .args in
@@ -39,11 +29,9 @@ returns c =
     ∙ sym (erase-is (a .memory .now) (a .block .0) (a .part .now))
     ∙ ap (λ (n : ℕ). performAll (a .memory .now) (nthOf (a .block .0) n ∷ []) (a .part .now)) (sym (c .before .before .before .before .if1 .taken))
 
--- src/marked.rt:84:1
 same-length-2 : tie.Need-same-length-2
 same-length-2 c = search needs
 
--- src/marked.rt:84:1
 returns-2 : tie.Need-returns-2
 returns-2 c =
     let a = c .before .before .before .before .before .before .before .args in

@@ -4,18 +4,13 @@ use lib.ListN.{length}
 use Rattle.flush.proofs.Lists.{block-dirty, block-erased, block-clean}
 use Rattle.flush.proofs.marked.actions_of.Statement.{statement}
 use Rattle.flush.proofs.marked.actions_of.Tie as tie
-use Rattle.flush.proofs.marked.actions_of.Reads as reads
-use Rattle.flush.proofs.marked.actions_of.Lts as lts
 
--- src/marked.rt:99:9
 returns : tie.Need-returns
 returns c = sym (ap length (block-dirty 0 (c .before .args .mark) (c .if1 .taken)))
 
--- src/marked.rt:102:9
 returns-2 : tie.Need-returns-2
 returns-2 c = sym (ap length (block-erased 0 (c .before .before .args .mark) (c .if2 .taken)))
 
--- src/marked.rt:95:1
 returns-3 : tie.Need-returns-3
 returns-3 c = sym (ap length (block-clean 0 (c .before .before .args .mark) (c .before .if1 .left) (c .if2 .left)))
 

@@ -1,32 +1,23 @@
 -- `flush::marked::flush_block` meets its contract.
-use mathlib.Core.Path.{_≡_, refl, sym, ap, _∙_}
-use mathlib.Core.List.{List, [], _∷_, _++_}
-use Prim.Native.Nat.{ℕ, _+_, _-_, _*_, _≤_, _<_}
-use native.Mathlib.Omega.{arith}
+use mathlib.Core.Path.{_≡_, sym, ap, _∙_}
+use mathlib.Core.List.{List, [], _∷_}
+use Prim.Native.Nat.{_-_}
 use borrow.Author.Needs.{needs}
-use lib.ListN.{length, getD, take, drop}
-use Rattle.flush.specs.Actions.{Action, erase, program, pagesFrom, blockActions, flushActions, perform, performAll}
+use lib.ListN.{length}
+use Rattle.flush.specs.Actions.{Action, erase, pagesFrom, blockActions, performAll}
 use Rattle.flush.proofs.Lists.{perform-none, dirty-is, erase-is, block-dirty, block-erased, block-clean}
 use Rattle.flush.proofs.marked.flush_block.Statement.{statement}
 use Rattle.flush.proofs.marked.flush_block.Tie as tie
-use Rattle.flush.proofs.marked.flush_block.Reads as reads
-use Rattle.flush.proofs.marked.flush_block.Lts as lts
-use Rattle.chip.proofs.erase_block.Reads as erase-block-reads
-use Rattle.flush.proofs.marked.program_block.Reads as program-block-reads
 
--- src/marked.rt:61:9
 erase-block-requires : tie.Need-erase-block-requires
 erase-block-requires c κs = search needs
 
--- src/marked.rt:62:9
 program-block-requires : tie.Need-program-block-requires
 program-block-requires c κs = search needs
 
--- src/marked.rt:63:9
 same-length : tie.Need-same-length
 same-length c = search needs
 
--- src/marked.rt:63:9
 returns : tie.Need-returns
 returns c =
     let a = c .before .before .before .before .before .before .before .before .before .before .before .args in
@@ -37,15 +28,12 @@ returns c =
           ∙ ap (λ (xs : List Action). performAll (a .memory .now) xs (a .part .now)) (sym e),
     )
 
--- src/marked.rt:66:9
 erase-block-requires-2 : tie.Need-erase-block-requires-2
 erase-block-requires-2 c κs = search needs
 
--- src/marked.rt:67:9
 same-length-2 : tie.Need-same-length-2
 same-length-2 c = search needs
 
--- src/marked.rt:67:9
 returns-2 : tie.Need-returns-2
 returns-2 c =
     let a = c .before .before .before .before .before .before .before .before .args in
@@ -56,7 +44,6 @@ returns-2 c =
           ∙ ap (λ (xs : List Action). performAll (a .memory .now) xs (a .part .now)) (sym e),
     )
 
--- src/marked.rt:56:1
 returns-3 : tie.Need-returns-3
 returns-3 c =
     let a = c .before .before .before .before .args in

@@ -1,18 +1,15 @@
 -- `flush::marked::flush_marked` meets its contract.
 use mathlib.Core.Path.{_≡_, refl, sym, ap, _∙_}
-use mathlib.Core.List.{List, [], _∷_, _++_}
-use Prim.Native.Nat.{ℕ, _+_, _-_, _*_, _≤_, _<_}
+use mathlib.Core.List.{List}
+use Prim.Native.Nat.{ℕ, _-_, _*_, _≤_}
 use native.Mathlib.Omega.{arith}
 use borrow.Author.Needs.{needs}
-use lib.ListN.{length, getD, take, drop}
+use lib.ListN.{length, getD, take}
 use lib.Seq.{take-all}
-use Rattle.flush.specs.Actions.{Action, erase, program, pagesFrom, blockActions, flushActions, perform, performAll}
+use Rattle.flush.specs.Actions.{Action, blockActions, flushActions, performAll}
 use Rattle.flush.proofs.Lists.{perform-none, flush-none, flushed-more, count-more, count-most, countOf, block-count}
 use Rattle.flush.proofs.marked.flush_marked.Statement.{statement}
 use Rattle.flush.proofs.marked.flush_marked.Tie as tie
-use Rattle.flush.proofs.marked.flush_marked.Reads as reads
-use Rattle.flush.proofs.marked.flush_marked.Lts as lts
-use Rattle.flush.proofs.marked.flush_block.Reads as flush-block-reads
 
 abbrev Inv-loop : tie.InvT-loop
 Inv-loop part₀ memory marks actions₀ i₀ part actions i = (i ≤ 64) × (actions ≤ 17 * i) × (actions ≡ length (flushActions (take i marks))) × (part ≡ performAll memory (flushActions (take i marks)) part₀) × (length part ≡ length part₀)
@@ -20,7 +17,6 @@ Inv-loop part₀ memory marks actions₀ i₀ part actions i = (i ≤ 64) × (ac
 abbrev μ-loop : tie.MeasureT-loop
 μ-loop part₀ memory marks actions₀ i₀ part actions i = 64 - i
 
--- src/marked.rt:32:5
 loop-holds : tie.Need-loop-holds Inv-loop μ-loop
 loop-holds c =
     let a = c .before .before .args in (
@@ -31,19 +27,15 @@ loop-holds c =
       refl,
     )
 
--- src/marked.rt:33:18
 cast-at : tie.Need-cast-at Inv-loop μ-loop
 cast-at c = search needs
 
--- src/marked.rt:34:57
 array-read-flush-block : tie.Need-array-read-flush-block Inv-loop μ-loop
 array-read-flush-block c = search needs
 
--- src/marked.rt:34:20
 flush-block-requires : tie.Need-flush-block-requires Inv-loop μ-loop
 flush-block-requires c κs = search needs
 
--- src/marked.rt:34:9
 add-actions : tie.Need-add-actions Inv-loop μ-loop
 add-actions c =
     let a = c .before .before .before .before .before .before .before .before .args in
@@ -51,15 +43,12 @@ add-actions c =
     let mark = getD (a .t3) (l .i) 0 in
     omega (arith, c .before .before .flush-block .ensures .0 ∙ block-count (l .i) mark, count-most mark)
 
--- src/marked.rt:35:9
 add-i : tie.Need-add-i Inv-loop μ-loop
 add-i c = search needs
 
--- src/marked.rt:32:5
 loop-less : tie.Need-loop-less Inv-loop μ-loop
 loop-less c = search needs
 
--- src/marked.rt:32:5
 loop-again : tie.Need-loop-again Inv-loop μ-loop
 loop-again c =
     let a = c .before .before .before .before .before .before .before .before .args in
@@ -77,11 +66,9 @@ loop-again c =
       call .kept .0 ∙ l .inv .4,
     )
 
--- src/marked.rt:26:1
 same-length : tie.Need-same-length Inv-loop μ-loop
 same-length c = search needs
 
--- src/marked.rt:26:1
 returns : tie.Need-returns Inv-loop μ-loop
 returns c =
     let a = c .before .before .before .before .args in

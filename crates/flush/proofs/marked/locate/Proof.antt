@@ -1,18 +1,15 @@
 -- `flush::marked::locate` meets its contract.
-use mathlib.Core.Path.{_≡_, refl, sym, ap, subst, _∙_}
-use mathlib.Core.List.{List, [], _∷_, _++_}
-use Prim.Native.Nat.{ℕ, _+_, _-_, _*_, _≤_, _<_}
+use mathlib.Core.Path.{_≡_, ap, subst, _∙_}
+use mathlib.Core.List.{List}
+use Prim.Native.Nat.{ℕ, _+_, _-_, _≤_, _<_}
 use native.Mathlib.Omega.{arith}
 use borrow.Author.Needs.{needs}
-use lib.ListN.{length, getD, take, drop}
+use lib.ListN.{length, getD, take}
 use lib.Seq.{take-all}
-use Rattle.flush.specs.Actions.{Action, erase, program, pagesFrom, blockActions, flushActions, perform, performAll}
+use Rattle.flush.specs.Actions.{flushActions}
 use Rattle.flush.proofs.Lists.{nth-of, count-more, countOf, block-count, flush-none}
 use Rattle.flush.proofs.marked.locate.Statement.{statement}
 use Rattle.flush.proofs.marked.locate.Tie as tie
-use Rattle.flush.proofs.marked.locate.Reads as reads
-use Rattle.flush.proofs.marked.locate.Lts as lts
-use Rattle.flush.proofs.marked.actions_of.Reads as actions-of-reads
 
 abbrev Inv-loop : tie.InvT-loop
 Inv-loop done marks left₀ i₀ left i = (i ≤ 64) × (left + length (flushActions (take i marks)) ≡ done)
@@ -20,31 +17,24 @@ Inv-loop done marks left₀ i₀ left i = (i ≤ 64) × (left + length (flushAct
 abbrev μ-loop : tie.MeasureT-loop
 μ-loop done marks left₀ i₀ left i = 64 - i
 
--- src/marked.rt:113:5
 loop-holds : tie.Need-loop-holds Inv-loop μ-loop
 loop-holds c = (omega arith, omega (arith, ap length flush-none))
 
--- src/marked.rt:114:18
 cast-at : tie.Need-cast-at Inv-loop μ-loop
 cast-at c = search needs
 
--- src/marked.rt:115:32
 array-read-actions-of : tie.Need-array-read-actions-of Inv-loop μ-loop
 array-read-actions-of c = search needs
 
--- src/marked.rt:115:13
 actions-of-requires : tie.Need-actions-of-requires Inv-loop μ-loop
 actions-of-requires c κs = search needs
 
--- src/marked.rt:116:19
 cast-if1 : tie.Need-cast-if1 Inv-loop μ-loop
 cast-if1 c = search needs
 
--- src/marked.rt:119:22
 cast-t13 : tie.Need-cast-t13 Inv-loop μ-loop
 cast-t13 c = search needs
 
--- src/marked.rt:117:13
 returns : tie.Need-returns Inv-loop μ-loop
 returns c =
     let a = c .before .before .before .before .args in
@@ -55,23 +45,18 @@ returns c =
     let found = nth-of (a .t1) (l .i) (omega arith) (l .left) few in
     rw (l .inv .1) at found
 
--- src/marked.rt:122:17
 cast-left : tie.Need-cast-left Inv-loop μ-loop
 cast-left c = search needs
 
--- src/marked.rt:122:9
 sub-left : tie.Need-sub-left Inv-loop μ-loop
 sub-left c = search needs
 
--- src/marked.rt:123:9
 add-i : tie.Need-add-i Inv-loop μ-loop
 add-i c = search needs
 
--- src/marked.rt:113:5
 loop-less : tie.Need-loop-less Inv-loop μ-loop
 loop-less c = search needs
 
--- src/marked.rt:113:5
 loop-again : tie.Need-loop-again Inv-loop μ-loop
 loop-again c =
     let a = c .before .before .before .before .args in
@@ -81,7 +66,6 @@ loop-again c =
     c .before .actions-of .ensures ∙ block-count 0 (getD (a .t1) (l .i) 0) in
     (omega arith, omega (arith, count, l .inv .1, count-more (a .t1) (l .i) (omega arith)))
 
--- src/marked.rt:108:1
 returns-2 : tie.Need-returns-2 Inv-loop μ-loop
 returns-2 c =
     let a = c .before .before .args in

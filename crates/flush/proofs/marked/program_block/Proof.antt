@@ -1,17 +1,13 @@
 -- `flush::marked::program_block` meets its contract.
 use mathlib.Core.Path.{_≡_, refl, sym, ap, _∙_}
-use mathlib.Core.List.{List, [], _∷_, _++_}
-use Prim.Native.Nat.{ℕ, _+_, _-_, _*_, _≤_, _<_}
+use Prim.Native.Nat.{ℕ, _-_, _≤_}
 use native.Mathlib.Omega.{arith}
 use borrow.Author.Needs.{needs}
-use lib.ListN.{length, getD, take, drop}
-use Rattle.flush.specs.Actions.{Action, erase, program, pagesFrom, blockActions, flushActions, perform, performAll}
+use lib.ListN.{length}
+use Rattle.flush.specs.Actions.{program, pagesFrom, perform, performAll}
 use Rattle.flush.proofs.Lists.{perform-none, pages-done, program-is}
 use Rattle.flush.proofs.marked.program_block.Statement.{statement}
 use Rattle.flush.proofs.marked.program_block.Tie as tie
-use Rattle.flush.proofs.marked.program_block.Reads as reads
-use Rattle.flush.proofs.marked.program_block.Lts as lts
-use Rattle.chip.proofs.program_page.Reads as program-page-reads
 
 abbrev Inv-loop : tie.InvT-loop
 Inv-loop part₀ memory block page₀ part page = (page ≤ 16) × (part ≡ performAll memory (pagesFrom (block .0) 0 page) part₀) × (length part ≡ length part₀)
@@ -19,24 +15,19 @@ Inv-loop part₀ memory block page₀ part page = (page ≤ 16) × (part ≡ per
 abbrev μ-loop : tie.MeasureT-loop
 μ-loop part₀ memory block page₀ part page = 16 - page
 
--- src/marked.rt:77:5
 loop-holds : tie.Need-loop-holds Inv-loop μ-loop
 loop-holds c =
     (omega arith, sym (perform-none (c .before .before .args .memory .now) (c .before .before .args .part .now)), refl)
 
--- src/marked.rt:78:9
 program-page-requires : tie.Need-program-page-requires Inv-loop μ-loop
 program-page-requires c κs = search needs
 
--- src/marked.rt:79:9
 add-page : tie.Need-add-page Inv-loop μ-loop
 add-page c = search needs
 
--- src/marked.rt:77:5
 loop-less : tie.Need-loop-less Inv-loop μ-loop
 loop-less c = search needs
 
--- src/marked.rt:77:5
 loop-again : tie.Need-loop-again Inv-loop μ-loop
 loop-again c =
     let a = c .before .before .before .before .before .before .before .before .args in
@@ -50,11 +41,9 @@ loop-again c =
       call .kept .0 ∙ l .inv .2,
     )
 
--- src/marked.rt:73:1
 same-length : tie.Need-same-length Inv-loop μ-loop
 same-length c = search needs
 
--- src/marked.rt:73:1
 returns : tie.Need-returns Inv-loop μ-loop
 returns c =
     let a = c .before .before .before .before .args in

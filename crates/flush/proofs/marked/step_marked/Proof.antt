@@ -1,42 +1,31 @@
 -- `flush::marked::step_marked` meets its contract.
-use mathlib.Core.Path.{_≡_, refl, sym, ap, subst, _∙_}
-use mathlib.Core.List.{List, [], _∷_, _++_}
-use Prim.Native.Nat.{ℕ, _+_, _-_, _*_, _≤_, _<_}
-use native.Mathlib.Omega.{arith}
+use mathlib.Core.Path.{sym, ap, subst, _∙_}
+use mathlib.Core.List.{List}
+use Prim.Native.Nat.{_-_}
 use borrow.Author.Needs.{needs}
-use lib.ListN.{length, getD, take, drop, drop-of-length-le}
+use lib.ListN.{length, take, drop-of-length-le}
 use borrow.Author.Tests.{lt-ltb, le-ltb}
-use Rattle.flush.specs.Actions.{Action, erase, program, pagesFrom, blockActions, flushActions, perform, performAll}
+use Rattle.flush.specs.Actions.{Action, flushActions, performAll}
 use Rattle.flush.specs.Locate.{Located}
 use Rattle.flush.proofs.Lists.{perform-none}
 use Rattle.flush.proofs.marked.step_marked.Statement.{statement}
 use Rattle.flush.proofs.marked.step_marked.Tie as tie
-use Rattle.flush.proofs.marked.step_marked.Reads as reads
-use Rattle.flush.proofs.marked.step_marked.Lts as lts
-use Rattle.flush.proofs.marked.act.Reads as act-reads
-use Rattle.flush.proofs.marked.locate.Reads as locate-reads
 
--- src/marked.rt:45:9
 locate-requires : tie.Need-locate-requires
 locate-requires c κs = search needs
 
--- src/marked.rt:47:21
 enum-known-place : tie.Need-enum-known-place
 enum-known-place c = search needs
 
--- src/marked.rt:48:13
 act-requires : tie.Need-act-requires
 act-requires c κs = search needs
 
--- src/marked.rt:51:24
 enum-told : tie.Need-enum-told
 enum-told c = search needs
 
--- src/marked.rt:41:1
 same-length : tie.Need-same-length
 same-length c = search needs
 
--- src/marked.rt:41:1
 returns : tie.Need-returns
 returns c =
     let a = c .before .before .before .before .before .before .before .before .before .before .args in
@@ -45,7 +34,6 @@ returns c =
       c .before .before .act .ensures ∙ ap (λ (xs : List Action). performAll (a .memory .now) xs (a .part .now)) (sym (located .1)),
     )
 
--- src/marked.rt:41:1
 returns-2 : tie.Need-returns-2
 returns-2 c =
     let a = c .before .before .before .before .before .args in

@@ -1,37 +1,26 @@
 -- `flush::window::advance` meets its contract.
-use mathlib.Core.Path.{_≡_, sym, _∙_}
-use mathlib.Core.Bool.{true}
-use native.Mathlib.Omega.{arith}
+use mathlib.Core.Path.{sym, _∙_}
 use borrow.Author.Needs.{needs}
-use lib.ListN.{length, take, drop}
-use Rattle.flush.specs.Window.{windowActions}
+use lib.ListN.{length}
 use Rattle.flush.proofs.InWindow.{unsound, suspended, acted, finished}
 use borrow.Author.Tests.{not-true, not-false}
 use Rattle.session.proofs.Facts.{part-within}
 use Rattle.flush.proofs.window.advance.Statement.{statement}
 use Rattle.flush.proofs.window.advance.Tie as tie
-use Rattle.flush.proofs.window.advance.Reads as reads
-use Rattle.flush.proofs.window.advance.Lts as lts
-use Rattle.flush.proofs.window.step_part.Reads as step-part-reads
-use Rattle.session.proofs.is_sound.Reads as is-sound-reads
 
--- src/window.rt:29:9
 is-sound-requires : tie.Need-is-sound-requires
 is-sound-requires c κs = search needs
 
--- src/window.rt:30:9
 returns : tie.Need-returns
 returns c =
     let a = c .before .before .before .before .args in
     unsound (a .session) (a .memory .now) (a .done) (a .flash .now) (sym (c .before .is-sound .ensures) ∙ not-true (c .before .is-sound .result) (c .if1 .taken))
 
--- src/window.rt:33:9
 returns-2 : tie.Need-returns-2
 returns-2 c =
     let a = c .before .before .before .before .before .args in
     suspended (a .session) (a .memory .now) (a .done) (a .flash .now) (sym (c .before .before .is-sound .ensures) ∙ not-false (c .before .before .is-sound .result) (c .before .if1 .left)) (c .if2 .taken)
 
--- src/window.rt:35:8
 step-part-requires : tie.Need-step-part-requires
 step-part-requires c κs =
     let a = c .before .before .before .before .before .before .args in
@@ -39,11 +28,9 @@ step-part-requires c κs =
     part-within (length (a .flash .now)) (length (a .memory .now)) (a .session)
     (sym (call .ensures) ∙ not-false (call .result) (c .before .before .if1 .left)) .0
 
--- src/window.rt:25:1
 same-length : tie.Need-same-length
 same-length c = search needs
 
--- src/window.rt:25:1
 returns-3 : tie.Need-returns-3
 returns-3 c =
     let a = c .before .before .before .before .before .before .before .before .before .before .args in
@@ -52,11 +39,9 @@ returns-3 c =
     (c .before .before .before .before .before .if2 .left) (sym (call .ensures .0) ∙ c .if3 .taken) in
     (w .0, w .1, call .ensures .1 ∙ w .2)
 
--- src/window.rt:25:1
 same-length-2 : tie.Need-same-length-2
 same-length-2 c = search needs
 
--- src/window.rt:25:1
 returns-4 : tie.Need-returns-4
 returns-4 c =
     let a = c .before .before .before .before .before .before .before .before .before .before .args in

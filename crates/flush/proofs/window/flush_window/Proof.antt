@@ -1,41 +1,29 @@
 -- `flush::window::flush_window` meets its contract.
-use mathlib.Core.Path.{_≡_, sym, _∙_}
-use mathlib.Core.Bool.{true}
-use native.Mathlib.Omega.{arith}
+use mathlib.Core.Path.{sym, _∙_}
 use borrow.Author.Needs.{needs}
 use lib.ListN.{length}
-use Rattle.flush.specs.Window.{windowActions}
 use Rattle.flush.proofs.InWindow.{flushed-none, flushed-all}
 use borrow.Author.Tests.{not-true, not-false}
 use Rattle.session.proofs.Facts.{part-within}
 use Rattle.flush.proofs.window.flush_window.Statement.{statement}
 use Rattle.flush.proofs.window.flush_window.Tie as tie
-use Rattle.flush.proofs.window.flush_window.Reads as reads
-use Rattle.flush.proofs.window.flush_window.Lts as lts
-use Rattle.flush.proofs.window.flush_part.Reads as flush-part-reads
-use Rattle.session.proofs.is_sound.Reads as is-sound-reads
 
--- src/window.rt:48:9
 is-sound-requires : tie.Need-is-sound-requires
 is-sound-requires c κs = search needs
 
--- src/window.rt:49:9
 returns : tie.Need-returns
 returns c =
     let a = c .before .before .before .before .args in
     flushed-none (a .session) (a .memory .now) (a .flash .now) (sym (c .before .is-sound .ensures) ∙ not-true (c .before .is-sound .result) (c .if1 .taken))
 
--- src/window.rt:51:5
 flush-part-requires : tie.Need-flush-part-requires
 flush-part-requires c κs =
     let a = c .before .before .before .before .before .args in
     part-within (length (a .flash .now)) (length (a .memory .now)) (a .session) (sym (c .before .before .is-sound .ensures) ∙ not-false (c .before .before .is-sound .result) (c .before .if1 .left)) .0
 
--- src/window.rt:44:1
 same-length : tie.Need-same-length
 same-length c = search needs
 
--- src/window.rt:44:1
 returns-2 : tie.Need-returns-2
 returns-2 c =
     let a = c .before .before .before .before .before .before .before .before .args in

@@ -1,59 +1,42 @@
 -- `flush::window::step_part` meets its contract.
-use mathlib.Core.Path.{_≡_, sym, _∙_}
-use mathlib.Core.Bool.{true}
 use native.Mathlib.Omega.{arith}
 use borrow.Author.Needs.{needs}
-use lib.ListN.{length, take, drop}
+use lib.ListN.{take, drop}
 use Rattle.flush.specs.Window.{windowActions}
 use Rattle.flush.proofs.InWindow.{performed}
 use Rattle.flush.proofs.window.step_part.Statement.{statement}
 use Rattle.flush.proofs.window.step_part.Tie as tie
-use Rattle.flush.proofs.window.step_part.Reads as reads
-use Rattle.flush.proofs.window.step_part.Lts as lts
-use Rattle.flush.proofs.marked.step_marked.Reads as step-marked-reads
-use Rattle.units.proofs.Blocks.bytes.Reads as bytes-reads
 
--- src/window.rt:62:24
 cast-t9 : tie.Need-cast-t9
 cast-t9 c = search needs
 
--- src/window.rt:62:17
 bytes-requires : tie.Need-bytes-requires
 bytes-requires c κs = search needs
 
--- src/window.rt:63:30
 cast-t9-2 : tie.Need-cast-t9-2
 cast-t9-2 c = search needs
 
--- src/window.rt:63:23
 bytes-requires-2 : tie.Need-bytes-requires-2
 bytes-requires-2 c κs = search needs
 
--- src/window.rt:63:15
 add-end : tie.Need-add-end
 add-end c = search needs
 
--- src/window.rt:65:17
 sub-step-marked : tie.Need-sub-step-marked
 sub-step-marked c = search needs
 
--- src/window.rt:65:17
 part-step-marked-start : tie.Need-part-step-marked-start
 part-step-marked-start c = search needs
 
--- src/window.rt:65:17
 part-step-marked-end : tie.Need-part-step-marked-end
 part-step-marked-end c = search needs
 
--- src/window.rt:65:5
 step-marked-requires : tie.Need-step-marked-requires
 step-marked-requires c κs = search needs
 
--- src/window.rt:57:1
 same-length : tie.Need-same-length
 same-length c = search needs
 
--- src/window.rt:57:1
 returns : tie.Need-returns
 returns c =
     let a = c .before .before .before .before .before .before .before .before .before .before .before .args in

@@ -1,65 +1,44 @@
 -- `mailbox::windows::copy_blocks` meets its contract.
-use mathlib.Core.Path.{_≡_, refl, sym, ap, _∙_}
-use mathlib.Core.List.{List, []}
-use Prim.Native.Nat.{ℕ, _+_, _-_}
+use Prim.Native.Nat.{_-_}
 use native.Mathlib.Omega.{arith}
 use borrow.Author.Needs.{needs}
-use borrow.Author.Tests.{lt-ltb, le-ltb, le-leb, lt-leb, eq-eqb, ne-eqb}
-use lib.ListN.{length, replicate}
-use Rattle.session.specs.declared.Session.{Session}
 use Rattle.mailbox.proofs.Front.{copied-front}
 use Rattle.mailbox.proofs.windows.copy_blocks.Statement.{statement}
 use Rattle.mailbox.proofs.windows.copy_blocks.Tie as tie
-use Rattle.mailbox.proofs.windows.copy_blocks.Reads as reads
-use Rattle.mailbox.proofs.windows.copy_blocks.Lts as lts
-use Rattle.buffers.proofs.copy.Reads as copy-reads
-use Rattle.units.proofs.Blocks.bytes.Reads as bytes-reads
 
--- src/windows.rt:143:17
 bytes-requires : tie.Need-bytes-requires
 bytes-requires c κs = search needs
 
--- src/windows.rt:144:17
 bytes-requires-2 : tie.Need-bytes-requires-2
 bytes-requires-2 c κs = search needs
 
--- src/windows.rt:145:15
 add-end : tie.Need-add-end
 add-end c = search needs
 
--- src/windows.rt:146:10
 sub-copy : tie.Need-sub-copy
 sub-copy c = search needs
 
--- src/windows.rt:146:10
 part-copy-start : tie.Need-part-copy-start
 part-copy-start c = search needs
 
--- src/windows.rt:146:10
 part-copy-end : tie.Need-part-copy-end
 part-copy-end c = search needs
 
--- src/windows.rt:146:33
 sub-copy-2 : tie.Need-sub-copy-2
 sub-copy-2 c = search needs
 
--- src/windows.rt:146:33
 part-copy-start-2 : tie.Need-part-copy-start-2
 part-copy-start-2 c = search needs
 
--- src/windows.rt:146:33
 part-copy-end-2 : tie.Need-part-copy-end-2
 part-copy-end-2 c = search needs
 
--- src/windows.rt:146:5
 copy-requires : tie.Need-copy-requires
 copy-requires c κs = search needs
 
--- src/windows.rt:138:1
 same-length : tie.Need-same-length
 same-length c = search needs
 
--- src/windows.rt:138:1
 returns : tie.Need-returns
 returns c =
     let a = c .before .before .before .before .before .before .before .before .before .args in

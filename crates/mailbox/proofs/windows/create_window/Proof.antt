@@ -1,38 +1,25 @@
 -- `mailbox::windows::create_window` meets its contract.
-use mathlib.Core.Path.{_≡_, refl, sym, ap, _∙_}
-use mathlib.Core.List.{List, []}
-use Prim.Native.Nat.{ℕ, _+_, _-_}
+use mathlib.Core.Path.{_≡_, ap, _∙_}
+use Prim.Native.Nat.{ℕ, _-_}
 use native.Mathlib.Omega.{arith}
 use borrow.Author.Needs.{needs}
-use borrow.Author.Tests.{lt-ltb, le-ltb, le-leb, lt-leb, eq-eqb, ne-eqb}
-use lib.ListN.{length, replicate}
-use Rattle.session.specs.declared.Session.{Session}
-use Rattle.units.specs.Units.{toBytes, roundUp}
+use lib.ListN.{length}
+use Rattle.units.specs.Units.{roundUp}
 use Rattle.mailbox.specs.Registers.{number}
 use Rattle.mailbox.specs.Commands.{Outcome, hint, sizeFor}
 use Rattle.mailbox.proofs.Front.{size-fits, opened-as}
 use Rattle.mailbox.proofs.windows.create_window.Statement.{statement}
 use Rattle.mailbox.proofs.windows.create_window.Tie as tie
-use Rattle.mailbox.proofs.windows.create_window.Reads as reads
-use Rattle.mailbox.proofs.windows.create_window.Lts as lts
-use Rattle.mailbox.proofs.registers.word.Reads as word-reads
-use Rattle.mailbox.proofs.windows.hinted.Reads as hinted-reads
-use Rattle.mailbox.proofs.windows.open_window.Reads as open-window-reads
-use Rattle.mailbox.proofs.windows.window_size.Reads as window-size-reads
 
--- src/windows.rt:64:9
 word-requires : tie.Need-word-requires
 word-requires c κs = search needs
 
--- src/windows.rt:69:9
 hinted-requires : tie.Need-hinted-requires
 hinted-requires c κs = search needs
 
--- src/windows.rt:65:9
 window-size-requires : tie.Need-window-size-requires
 window-size-requires c κs = search needs
 
--- src/windows.rt:71:5
 open-window-requires : tie.Need-open-window-requires
 open-window-requires c κs =
     let a = c .before .before .before .before .before .before .before .args in
@@ -40,21 +27,18 @@ open-window-requires c κs =
     let C = roundUp (length (a .memory .now)) in
     let first : c .before .before .before .before .word .result ≡ number 2 0 (a .registers) = c .before .before .before .before .word .ensures in
     let size : c .before .before .window-size .result ≡ sizeFor S C (number 2 0 (a .registers)) (hint (a .session) (a .registers)) =
-        c .before .before .window-size .ensures
-        ∙ ap (λ (o : ℕ). sizeFor S C o (c .before .before .before .hinted .result)) first
-        ∙ ap (sizeFor S C (number 2 0 (a .registers))) (c .before .before .before .hinted .ensures) in
+    c .before .before .window-size .ensures
+    ∙ ap (λ (o : ℕ). sizeFor S C o (c .before .before .before .hinted .result)) first
+    ∙ ap (sizeFor S C (number 2 0 (a .registers))) (c .before .before .before .hinted .ensures) in
     let f = size-fits S C (number 2 0 (a .registers)) (hint (a .session) (a .registers)) (c .before .before .before .before .before .before .before .pre .0) in
     (omega (arith, first, size, f .0, c .before .before .before .before .before .before .before .pre .1 .0 .0), omega (arith, size, f .1, c .before .before .before .before .before .before .before .pre .1 .1 .0))
 
--- src/windows.rt:49:1
 same-length : tie.Need-same-length
 same-length c = search needs
 
--- src/windows.rt:49:1
 same-length-2 : tie.Need-same-length-2
 same-length-2 c = search needs
 
--- src/windows.rt:49:1
 returns : tie.Need-returns
 returns c =
     let a = c .before .before .before .before .before .before .before .before .before .before .before .before .args in
@@ -62,14 +46,15 @@ returns c =
     let C = roundUp (length (a .memory .now)) in
     let first : c .before .before .before .before .before .before .before .before .before .word .result ≡ number 2 0 (a .registers) = c .before .before .before .before .before .before .before .before .before .word .ensures in
     let size : c .before .before .before .before .before .before .before .window-size .result ≡ sizeFor S C (number 2 0 (a .registers)) (hint (a .session) (a .registers)) =
-        c .before .before .before .before .before .before .before .window-size .ensures
-        ∙ ap (λ (o : ℕ). sizeFor S C o (c .before .before .before .before .before .before .before .before .hinted .result)) first
-        ∙ ap (sizeFor S C (number 2 0 (a .registers))) (c .before .before .before .before .before .before .before .before .hinted .ensures) in
+    c .before .before .before .before .before .before .before .window-size .ensures
+    ∙ ap (λ (o : ℕ). sizeFor S C o (c .before .before .before .before .before .before .before .before .hinted .result)) first
+    ∙ ap (sizeFor S C (number 2 0 (a .registers))) (c .before .before .before .before .before .before .before .before .hinted .ensures) in
     let call = c .before .before .before .before .open-window in
-    let e = opened-as (a .window) (a .board) (a .session) (a .registers) (a .flash .now) (a .memory .now) first size in
-    ( call .ensures .0 ∙ ap (λ (r : Outcome). r .answer) e
-    , call .ensures .1 ∙ ap (λ (r : Outcome). r .flash) e
-    , call .ensures .2 ∙ ap (λ (r : Outcome). r .memory) e)
+    let e = opened-as (a .window) (a .board) (a .session) (a .registers) (a .flash .now) (a .memory .now) first size in (
+      call .ensures .0 ∙ ap (λ (r : Outcome). r .answer) e,
+      call .ensures .1 ∙ ap (λ (r : Outcome). r .flash) e,
+      call .ensures .2 ∙ ap (λ (r : Outcome). r .memory) e,
+    )
 
 pub create-window-spec : {M : Type 1} → statement M
 create-window-spec =

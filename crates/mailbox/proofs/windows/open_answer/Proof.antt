@@ -1,56 +1,38 @@
 -- `mailbox::windows::open_answer` meets its contract.
-use mathlib.Core.Path.{_≡_, refl, sym, ap, _∙_}
-use mathlib.Core.List.{List, []}
-use Prim.Native.Nat.{ℕ, _+_, _-_}
-use native.Mathlib.Omega.{arith}
+use Prim.Native.Nat.{_-_}
 use borrow.Author.Needs.{needs}
-use borrow.Author.Tests.{lt-ltb, le-ltb, le-leb, lt-leb, eq-eqb, ne-eqb}
-use lib.ListN.{length, replicate}
-use Rattle.session.specs.declared.Session.{Session}
+use borrow.Author.Tests.{lt-ltb, le-ltb}
 use Rattle.mailbox.proofs.windows.open_answer.Statement.{statement}
 use Rattle.mailbox.proofs.windows.open_answer.Tie as tie
-use Rattle.mailbox.proofs.windows.open_answer.Reads as reads
-use Rattle.mailbox.proofs.windows.open_answer.Lts as lts
-use Rattle.mailbox.proofs.registers.answer.Reads as answer-reads
 
--- src/windows.rt:175:14
 cast-b0 : tie.Need-cast-b0
 cast-b0 c = search needs
 
--- src/windows.rt:176:14
 cast-b1 : tie.Need-cast-b1
 cast-b1 c = search needs
 
--- src/windows.rt:178:9
 answer-requires : tie.Need-answer-requires
 answer-requires c κs = search needs
 
--- src/windows.rt:178:9
 returns : tie.Need-returns
 returns c =
     rw (lt-ltb (c .before .before .before .args .session .version) 2 (c .before .if1 .taken)) (c .answer .ensures)
 
--- src/windows.rt:186:14
 cast-s0 : tie.Need-cast-s0
 cast-s0 c = search needs
 
--- src/windows.rt:187:14
 cast-s1 : tie.Need-cast-s1
 cast-s1 c = search needs
 
--- src/windows.rt:188:14
 cast-f0 : tie.Need-cast-f0
 cast-f0 c = search needs
 
--- src/windows.rt:189:14
 cast-f1 : tie.Need-cast-f1
 cast-f1 c = search needs
 
--- src/windows.rt:190:5
 answer-requires-2 : tie.Need-answer-requires-2
 answer-requires-2 c κs = search needs
 
--- src/windows.rt:172:1
 returns-2 : tie.Need-returns-2
 returns-2 c =
     rw (le-ltb (c .before .before .before .before .before .before .before .args .session .version) 2 (c .before .before .before .before .before .if1 .left)) (c .answer2 .ensures)

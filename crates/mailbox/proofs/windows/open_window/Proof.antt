@@ -1,59 +1,44 @@
 -- `mailbox::windows::open_window` meets its contract.
-use mathlib.Core.Path.{_≡_, refl, sym, ap, _∙_}
-use mathlib.Core.List.{List, []}
-use Prim.Native.Nat.{ℕ, _+_, _-_}
-use native.Mathlib.Omega.{arith}
+use mathlib.Core.Path.{ap, _∙_}
+use mathlib.Core.List.{List}
+use Prim.Native.Nat.{ℕ, _-_}
 use borrow.Author.Needs.{needs}
-use borrow.Author.Tests.{lt-ltb, le-ltb, le-leb, lt-leb, eq-eqb, ne-eqb}
-use lib.ListN.{length, replicate}
 use Rattle.session.specs.declared.Session.{Session}
 use Rattle.units.specs.Units.{toBytes}
 use Rattle.buffers.specs.Ranges.{range, replace}
 use Rattle.mailbox.specs.Commands.{answered, withWindow, createArguments}
 use Rattle.mailbox.proofs.windows.open_window.Statement.{statement}
 use Rattle.mailbox.proofs.windows.open_window.Tie as tie
-use Rattle.mailbox.proofs.windows.open_window.Reads as reads
-use Rattle.mailbox.proofs.windows.open_window.Lts as lts
-use Rattle.flush.proofs.flush_window.Reads as flush-window-reads
-use Rattle.mailbox.proofs.windows.copy_blocks.Reads as copy-blocks-reads
-use Rattle.mailbox.proofs.windows.open_answer.Reads as open-answer-reads
-use Rattle.mailbox.proofs.windows.with_window.Reads as with-window-reads
 
--- src/windows.rt:127:9
 flush-window-requires : tie.Need-flush-window-requires
 flush-window-requires c κs = search needs
 
--- src/windows.rt:128:5
 copy-blocks-requires : tie.Need-copy-blocks-requires
 copy-blocks-requires c κs = search needs
 
--- src/windows.rt:130:9
 with-window-requires : tie.Need-with-window-requires
 with-window-requires c κs = search needs
 
--- src/windows.rt:129:5
 open-answer-requires : tie.Need-open-answer-requires
 open-answer-requires c κs = search needs
 
--- src/windows.rt:111:1
 same-length : tie.Need-same-length
 same-length c = search needs
 
--- src/windows.rt:111:1
 same-length-2 : tie.Need-same-length-2
 same-length-2 c = search needs
 
--- src/windows.rt:111:1
 returns : tie.Need-returns
 returns c =
     let a = c .before .before .before .before .before .before .before .before .before .before .before .before .before .before .args in
     let call = c .before .before .before .before .before .before .before .before .before .flush-window in
-    let copy = c .before .before .before .before .copy-blocks in
-    ( c .open-answer .ensures
-      ∙ ap (λ (s : Session). answered s (a .registers) 1 (createArguments (s .version) (a .board .lpc) (s .size) (s .first)) (call .result)) (c .before .with-window .ensures)
-      ∙ ap (answered (withWindow (a .window) (a .first) (a .size) (a .session)) (a .registers) 1 (createArguments (a .session .version) (a .board .lpc) (a .size) (a .first))) (call .ensures .0)
-    , call .ensures .1
-    , copy .ensures ∙ ap (λ (f : List ℕ). replace 0 (range (toBytes (a .first)) (toBytes (a .size)) f) (a .memory .now)) (call .ensures .1))
+    let copy = c .before .before .before .before .copy-blocks in (
+      c .open-answer .ensures
+          ∙ ap (λ (s : Session). answered s (a .registers) 1 (createArguments (s .version) (a .board .lpc) (s .size) (s .first)) (call .result)) (c .before .with-window .ensures)
+          ∙ ap (answered (withWindow (a .window) (a .first) (a .size) (a .session)) (a .registers) 1 (createArguments (a .session .version) (a .board .lpc) (a .size) (a .first))) (call .ensures .0),
+      call .ensures .1,
+      copy .ensures ∙ ap (λ (f : List ℕ). replace 0 (range (toBytes (a .first)) (toBytes (a .size)) f) (a .memory .now)) (call .ensures .1),
+    )
 
 pub open-window-spec : {M : Type 1} → statement M
 open-window-spec =

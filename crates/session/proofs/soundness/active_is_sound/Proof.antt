@@ -1,26 +1,19 @@
 -- `session::soundness::active_is_sound` meets its contract.
-use mathlib.Core.Path.{_≡_, sym, ap, _∙_}
 use native.Mathlib.Omega.{arith}
-use borrow.Author.Tests.{le-leb, lt-leb, eq-eqb, ne-eqb}
+use borrow.Author.Tests.{le-leb, lt-leb}
 use borrow.Author.Needs.{needs}
 use Rattle.session.proofs.soundness.active_is_sound.Statement.{statement}
 use Rattle.session.proofs.soundness.active_is_sound.Tie as tie
-use Rattle.session.proofs.soundness.active_is_sound.Reads as reads
-use Rattle.session.proofs.soundness.active_is_sound.Lts as lts
 
--- src/soundness.rt:90:9
 returns : tie.Need-returns
 returns c = let a = c .before .args in rw (lt-leb 1 (a .size) (omega arith))
 
--- src/soundness.rt:93:9
 returns-2 : tie.Need-returns-2
 returns-2 c = let a = c .before .before .args in rw (le-leb 1 (a .size) (omega arith), lt-leb (a .size) (a .memory) (c .if2 .taken))
 
--- src/soundness.rt:95:5
 add-result : tie.Need-add-result
 add-result c = search needs
 
--- src/soundness.rt:86:1
 returns-3 : tie.Need-returns-3
 returns-3 c = let a = c .before .before .args in rw (le-leb 1 (a .size) (omega arith), le-leb (a .size) (a .memory) (c .if2 .left))
 

@@ -1,7 +1,7 @@
 -- `session::soundness::is_sound` meets its contract.
 use mathlib.Core.Path.{_≡_, sym, ap, _∙_}
 use native.Mathlib.Omega.{arith}
-use borrow.Author.Tests.{le-leb, lt-leb, eq-eqb, ne-eqb, not-true, not-false}
+use borrow.Author.Tests.{not-true, not-false}
 use borrow.Author.Needs.{needs}
 use mathlib.Core.Bool.{true}
 use Prim.Native.Nat.{ℕ}
@@ -10,26 +10,17 @@ use Rattle.session.specs.Soundness.{sound, sizesSound, sizeSound, sessio
 use Rattle.session.proofs.Facts.{sized, counted}
 use Rattle.session.proofs.soundness.is_sound.Statement.{statement}
 use Rattle.session.proofs.soundness.is_sound.Tie as tie
-use Rattle.session.proofs.soundness.is_sound.Reads as reads
-use Rattle.session.proofs.soundness.is_sound.Lts as lts
-use Rattle.session.proofs.soundness.session_is_sound.Reads as session-is-sound-reads
-use Rattle.session.proofs.soundness.size_is_sound.Reads as size-is-sound-reads
-use Rattle.units.proofs.Bytes.blocks.Reads as blocks-reads
 
--- src/soundness.rt:20:9
 size-is-sound-requires : tie.Need-size-is-sound-requires
 size-is-sound-requires c κs = search needs
 
--- src/soundness.rt:21:9
 returns : tie.Need-returns
 unfolding sound sizesSound
 returns c = rw (sym (c .before .size-is-sound .ensures) ∙ not-true (c .before .size-is-sound .result) (c .if1 .taken))
 
--- src/soundness.rt:23:9
 size-is-sound-requires-2 : tie.Need-size-is-sound-requires-2
 size-is-sound-requires-2 c κs = search needs
 
--- src/soundness.rt:24:9
 returns-2 : tie.Need-returns-2
 unfolding sound sizesSound
 returns-2 c =
@@ -37,19 +28,15 @@ returns-2 c =
     let memory = c .before .size-is-sound2 in
     rw (sym (flash .ensures) ∙ not-false (flash .result) (c .before .before .if1 .left), sym (memory .ensures) ∙ not-true (memory .result) (c .if2 .taken))
 
--- src/soundness.rt:26:24
 blocks-requires : tie.Need-blocks-requires
 blocks-requires c κs = search needs
 
--- src/soundness.rt:27:25
 blocks-requires-2 : tie.Need-blocks-requires-2
 blocks-requires-2 c κs = search needs
 
--- src/soundness.rt:28:5
 session-is-sound-requires : tie.Need-session-is-sound-requires
 session-is-sound-requires c κs = search needs
 
--- src/soundness.rt:17:1
 returns-3 : tie.Need-returns-3
 unfolding sound sizesSound
 returns-3 c =

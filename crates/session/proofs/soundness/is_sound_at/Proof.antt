@@ -10,33 +10,23 @@ use Rattle.session.proofs.Facts.{sized, sizes, counted}
 use borrow.Author.Needs.{needs}
 use Rattle.session.proofs.soundness.is_sound_at.Statement.{statement}
 use Rattle.session.proofs.soundness.is_sound_at.Tie as tie
-use Rattle.session.proofs.soundness.is_sound_at.Reads as reads
-use Rattle.session.proofs.soundness.is_sound_at.Lts as lts
-use Rattle.session.proofs.soundness.is_sound.Reads as is-sound-reads
-use Rattle.units.proofs.Bytes.blocks.Reads as blocks-reads
 
--- src/soundness.rt:35:9
 is-sound-requires : tie.Need-is-sound-requires
 is-sound-requires c κs = search needs
 
--- src/soundness.rt:36:9
 returns : tie.Need-returns
 unfolding soundAt
 returns c = rw (sym (c .before .is-sound .ensures) ∙ not-true (c .before .is-sound .result) (c .if1 .taken))
 
--- src/soundness.rt:38:25
 blocks-requires : tie.Need-blocks-requires
 blocks-requires c κs = search needs
 
--- src/soundness.rt:39:21
 cast-result : tie.Need-cast-result
 cast-result c = search needs
 
--- src/soundness.rt:39:5
 add-result : tie.Need-add-result
 add-result c = search needs
 
--- src/soundness.rt:32:1
 returns-2 : tie.Need-returns-2
 unfolding soundAt
 returns-2 c =

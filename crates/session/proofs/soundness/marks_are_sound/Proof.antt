@@ -1,15 +1,14 @@
+-- `session::soundness::marks_are_sound` meets its contract: the marks from place i on are still to be tested.
 use mathlib.Core.Path.{_≡_, sym, ap, _∙_}
 use mathlib.Core.Logic.{inl, inr, ⊎-elim}
 use Rattle.session.proofs.Marks.{mark-over, mark-within, marks-end}
-use Prim.Native.Nat.{ℕ, _+_, _≤_, _<_, _-_}
+use Prim.Native.Nat.{ℕ, _≤_, _-_}
 use native.Mathlib.Omega.{arith}
 use borrow.Author.Needs.{needs}
-use lib.ListN.{length, getD, drop}
+use lib.ListN.{length, drop}
 use Rattle.session.specs.Soundness.{marksSound}
 use Rattle.session.proofs.soundness.marks_are_sound.Statement.{statement}
 use Rattle.session.proofs.soundness.marks_are_sound.Tie as tie
-use Rattle.session.proofs.soundness.marks_are_sound.Reads as reads
-use Rattle.session.proofs.soundness.marks_are_sound.Lts as lts
 
 abbrev Inv-loop : tie.InvT-loop
 Inv-loop markable marks i₀ i = (i ≤ 64) × (marksSound markable marks ≡ marksSound (markable - i) (drop i marks))
@@ -17,18 +16,15 @@ Inv-loop markable marks i₀ i = (i ≤ 64) × (marksSound markable marks ≡ ma
 abbrev μ-loop : tie.MeasureT-loop
 μ-loop markable marks i₀ i = 64 - i
 
--- src/soundness.rt:113:5
 loop-holds : tie.Need-loop-holds Inv-loop μ-loop
 loop-holds c = (omega arith, ap (λ (m : ℕ). marksSound m (c .args .t1)) (whole (c .args .markable)))
   where
     whole : (m : ℕ) → m ≡ m - 0
     whole m = omega arith
 
--- src/soundness.rt:115:19
 array-read-if2 : tie.Need-array-read-if2 Inv-loop μ-loop
 array-read-if2 c = omega arith
 
--- src/soundness.rt:116:13
 returns : tie.Need-returns Inv-loop μ-loop
 returns c =
     let a = c .before .before .before .before .args in
@@ -36,15 +32,12 @@ returns c =
     let long : length (a .t1) ≡ 64 = search needs in
     sym (l .inv .1 ∙ mark-over (a .markable) (l .i) (a .t1) (omega arith) (c .before .if1 .most) (⊎-elim (λ w. inl (w .0 .taken, w .1)) (λ w. inr (w .0 .left, w .1)) (c .before .if1 .came)) (c .if2 .taken))
 
--- src/soundness.rt:118:9
 add-i : tie.Need-add-i Inv-loop μ-loop
 add-i c = omega arith
 
--- src/soundness.rt:113:5
 loop-less : tie.Need-loop-less Inv-loop μ-loop
 loop-less c = omega arith
 
--- src/soundness.rt:113:5
 loop-again : tie.Need-loop-again Inv-loop μ-loop
 loop-again c =
     let a = c .before .before .before .before .args in
@@ -52,7 +45,6 @@ loop-again c =
     let long : length (a .t1) ≡ 64 = search needs in
     (omega arith, l .inv .1 ∙ mark-within (a .markable) (l .i) (a .t1) (omega arith) (c .before .if1 .most) (⊎-elim (λ w. inl (w .0 .taken, w .1)) (λ w. inr (w .0 .left, w .1)) (c .before .if1 .came)) (c .if2 .left))
 
--- src/soundness.rt:109:1
 returns-2 : tie.Need-returns-2 Inv-loop μ-loop
 returns-2 c =
     let a = c .before .before .args in

@@ -1,38 +1,29 @@
 -- `session::soundness::size_is_sound` meets its contract.
 use Rattle.units.specs.Units.{toBytes, roundUp}
 use Rattle.session.specs.Soundness.{sizeSound}
-use mathlib.Core.Path.{_≡_, sym, ap, _∙_}
+use mathlib.Core.Path.{_≡_}
 use native.Mathlib.Omega.{arith}
-use borrow.Author.Tests.{le-leb, lt-leb, eq-eqb, ne-eqb}
+use borrow.Author.Tests.{le-leb, lt-leb}
 use borrow.Author.Needs.{needs}
 use Rattle.session.proofs.soundness.size_is_sound.Statement.{statement}
 use Rattle.session.proofs.soundness.size_is_sound.Tie as tie
-use Rattle.session.proofs.soundness.size_is_sound.Reads as reads
-use Rattle.session.proofs.soundness.size_is_sound.Lts as lts
-use Rattle.units.proofs.Blocks.bytes.Reads as bytes-reads
-use Rattle.units.proofs.Bytes.blocks.Reads as blocks-reads
 
--- src/soundness.rt:46:9
 blocks-requires : tie.Need-blocks-requires
 blocks-requires c κs = search needs
 
--- src/soundness.rt:48:9
 returns : tie.Need-returns
 unfolding sizeSound
 returns c = let a = c .before .before .before .args in rw (lt-leb 1 (roundUp (a .length)) (omega arith))
 
--- src/soundness.rt:51:9
 returns-2 : tie.Need-returns-2
 unfolding sizeSound
 returns-2 c =
     let a = c .before .before .before .before .before .args in
     rw (le-leb 1 (roundUp (a .length)) (omega arith), lt-leb (roundUp (a .length)) (a .most) (omega arith))
 
--- src/soundness.rt:53:5
 bytes-requires : tie.Need-bytes-requires
 bytes-requires c κs = search needs
 
--- src/soundness.rt:43:1
 returns-3 : tie.Need-returns-3
 unfolding sizeSound
 returns-3 c =

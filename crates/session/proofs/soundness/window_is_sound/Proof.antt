@@ -1,47 +1,33 @@
 -- `session::soundness::window_is_sound` meets its contract.
-use mathlib.Core.Path.{_≡_, sym, ap, _∙_}
-use native.Mathlib.Omega.{arith}
-use borrow.Author.Tests.{le-leb, lt-leb, eq-eqb, ne-eqb, not-true, not-false}
+use borrow.Author.Tests.{eq-eqb, ne-eqb}
 use borrow.Author.Needs.{needs}
 use Rattle.session.proofs.soundness.window_is_sound.Statement.{statement}
 use Rattle.session.proofs.soundness.window_is_sound.Tie as tie
-use Rattle.session.proofs.soundness.window_is_sound.Reads as reads
-use Rattle.session.proofs.soundness.window_is_sound.Lts as lts
-use Rattle.session.proofs.soundness.active_is_sound.Reads as active-is-sound-reads
 
--- src/soundness.rt:75:16
 enum-told : tie.Need-enum-told
 enum-told c = search needs
 
--- src/soundness.rt:81:25
 enum-told-2 : tie.Need-enum-told-2
 enum-told-2 c = search needs
 
--- src/soundness.rt:81:25
 active-is-sound-requires : tie.Need-active-is-sound-requires
 active-is-sound-requires c κs = search needs
 
--- src/soundness.rt:82:26
 enum-told-3 : tie.Need-enum-told-3
 enum-told-3 c = search needs
 
--- src/soundness.rt:82:26
 active-is-sound-requires-2 : tie.Need-active-is-sound-requires-2
 active-is-sound-requires-2 c κs = search needs
 
--- src/soundness.rt:70:1
 returns : tie.Need-returns
 returns c = rw (c .before .enum-told .given .1, eq-eqb (c .before .before .before .args .first) 0 (c .if1 .taken))
 
--- src/soundness.rt:70:1
 returns-2 : tie.Need-returns-2
 returns-2 c = rw (c .before .enum-told .given .1, ne-eqb (c .before .before .before .args .first) 0 (c .if1 .left))
 
--- src/soundness.rt:70:1
 returns-3 : tie.Need-returns-3
 returns-3 c = rw (c .before .enum-told2 .given .1) (c .active-is-sound .ensures)
 
--- src/soundness.rt:70:1
 returns-4 : tie.Need-returns-4
 returns-4 c = rw (c .before .enum-told3 .given .1) (c .active-is-sound2 .ensures)
 

@@ -1,24 +1,19 @@
+-- `units::Bytes::blocks` meets its contract.
 use borrow.Author.Needs.{needs}
 use native.Mathlib.Omega.{arith}
 use mathlib.Core.Logic.{⊎-elim}
 use Rattle.units.proofs.Bytes.blocks.Statement.{statement}
 use Rattle.units.proofs.Bytes.blocks.Tie as tie
-use Rattle.units.proofs.Bytes.blocks.Reads as reads
-use Rattle.units.proofs.Bytes.blocks.Lts as lts
 
--- src/rt:34:52
 add-count : tie.Need-add-count
 add-count c = search needs
 
--- src/rt:36:20
 cast-t9 : tie.Need-cast-t9
 cast-t9 c = search needs
 
--- src/rt:29:5
 returns : tie.Need-returns
 returns c = ⊎-elim (λ w. omega arith) (λ w. omega arith) (c .before .before .if1 .came)
 
--- src/rt:29:5
 returns-2 : tie.Need-returns-2
 returns-2 c = ⊎-elim (λ w. omega arith) (λ w. omega arith) (c .before .if1 .came)
 
