@@ -1,4 +1,4 @@
 pub mod Accepting
 pub mod Checks
 mod Fields
-mod Front
+pub mod Front

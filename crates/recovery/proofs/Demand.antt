@@ -1,0 +1,170 @@
+-- Demand 3, whole: `demand-3`, over the definitions that the contracts cite.
+use mathlib.Core.Path.{_≡_, refl, sym, ap, _∙_, subst}
+use mathlib.Core.Bool.{Bool, true, false, cond, _&&_, not}
+use mathlib.Core.List.{List}
+use mathlib.Core.Logic.{⊎-elim}
+use Prim.Native.Nat.{ℕ, _≤_, min}
+use native.Mathlib.Omega.{arith}
+use lib.Dec.{ltb, eqb}
+use lib.ListN.{length, getD, take}
+use Rattle.units.proofs.Cases.{decided}
+use Rattle.units.specs.Units.{toBytes}
+use Rattle.session.specs.declared.Session.{Session}
+use Rattle.session.specs.declared.Window.the-variants.{Write}
+use Rattle.session.specs.Record.{fresh}
+use Rattle.session.specs.Soundness.{marksSound, sound, soundAt}
+use Rattle.session.specs.Suspension.{resumed}
+use Rattle.session.proofs.Facts.{sizes, fitting, part-within}
+use Rattle.flush.specs.Actions.{Action, flushActions}
+use Rattle.flush.specs.Window.{windowActions, performIn}
+use Rattle.flush.proofs.Whole.{in-same, after-cut}
+use Rattle.mailbox.specs.declared.Board.{Board}
+use Rattle.mailbox.specs.Refusals.{flushMarks}
+use Rattle.mailbox.specs.Registers.{argument, number}
+use Rattle.mailbox.specs.Commands.{withVersion}
+use Rattle.mailbox.specs.Mediator.{numbered}
+use Rattle.mailbox.proofs.Accepting.{measured}
+use Rattle.recovery.specs.Cut.{Event, State, cut, start, Kept, AtCut}
+use Rattle.recovery.specs.Second.{Machine, sent, Way, bySteps, byFlush, Succeeds, flashAfter, begun, agreeing, opening, marking, SecondRun, secondFlash, resumedIf, unstopped, AddsNone, unstoppedFlash}
+use Rattle.recovery.proofs.FirstList.{sound-as, marks-sound, Running, begins, runs, says, session-after, block-at, finished-at, old-at, other-at, length-at, resumed-kept, resume-said, steps-flash}
+use Rattle.recovery.proofs.SecondList.{info-leaves, create-opens, Open, calls-open, flush-leaves}
+
+-- ---- either way to flush does all actions of the window
+way-flash : (board : Board) (way : Way) (m : Machine) → Succeeds board way m → AddsNone way (m .session)
+    → sound (length (m .flash)) (length (m .memory)) (m .session) ≡ true → m .session .window ≡ Write → m .session .suspended ≡ false
+    → flashAfter board way m ≡ performIn (m .session) (m .memory) (windowActions (m .session)) (m .flash)
+way-flash board bySteps m ok none e w a = steps-flash (m .session) (m .flash) (m .memory) e w a
+way-flash board (byFlush registers) m ok none e w a =
+    flush-leaves board (m .session) registers (m .flash) (m .memory) (ok .0) (ok .1) none e
+
+-- what is done goes by the window's place, size and marks
+same-window : (t s : Session) → t .first ≡ s .first → t .size ≡ s .size → t .marks ≡ s .marks → (memory flash : List ℕ)
+    → performIn t memory (windowActions t) flash ≡ performIn s memory (windowActions s) flash
+same-window t s f z m memory flash =
+    in-same t s f z memory (windowActions t) flash ∙ ap (λ (marks : List ℕ). performIn s memory (flushActions marks) flash) m
+
+-- a FLUSH of version 2 adds no mark
+adds-none : (way : Way) (t : Session) → t .version ≡ 2 → AddsNone way t
+adds-none bySteps t v = tt
+adds-none (byFlush registers) t v = ap (λ (version : ℕ). ltb version 2 && not (eqb (number 4 2 registers) 0)) v
+
+module _ (board : Board) (s : Session) (flash memory : List ℕ) (sounds : soundAt (board .lpc) (length flash) (length memory) s ≡ true) (w : s .window ≡ Write) where
+  e : sound (length flash) (length memory) s ≡ true
+  e = measured (board .lpc) (length flash) (length memory) s sounds .sound
+
+  known : s .version ≤ 2
+  known = measured (board .lpc) (length flash) (length memory) s sounds .fits .known
+
+  -- ---- the flush never stopped
+  never-stopped : (way : Way) → Succeeds board way (unstopped s flash memory) → AddsNone way s
+      → unstoppedFlash board way s flash memory ≡ performIn s memory (windowActions s) flash
+  never-stopped way ok none =
+      way-flash board way (unstopped s flash memory) ok (adds way none)
+      (sound-as (length flash) (length memory) s (resumedIf s) e (subst (λ (v : ℕ). v ≤ 2) (sym (k .version)) known) (k .window) (k .first) (k .size) (k .marks))
+      (k .window ∙ w) awake
+      ∙ same-window (resumedIf s) s (k .first) (k .size) (k .marks) memory flash
+    where
+      by : Bool → Session
+      by b = cond b (resumed s .session) s
+
+      k : Kept s (resumedIf s)
+      k =
+          let same : Kept s s = record { version = refl; previous = refl; window = refl; first = refl; size = refl; marks = refl } in
+          ⊎-elim
+          (λ (u : s .suspended ≡ true). subst (Kept s) (sym (ap by u)) (resumed-kept s flash memory e w s same))
+          (λ (u : s .suspended ≡ false). subst (Kept s) (sym (ap by u)) same)
+          (decided (s .suspended))
+
+      awake : resumedIf s .suspended ≡ false
+      awake =
+          ⊎-elim
+          (λ (u : s .suspended ≡ true). ap (λ (b : Bool). by b .suspended) u ∙ resume-said s flash memory e w s .1)
+          (λ (u : s .suspended ≡ false). ap (λ (b : Bool). by b .suspended) u ∙ u)
+          (decided (s .suspended))
+
+      adds : (way : Way) → AddsNone way s → AddsNone way (resumedIf s)
+      adds bySteps n = tt
+      adds (byFlush registers) n = ap (λ (version : ℕ). ltb version 2 && not (eqb (number 4 2 registers) 0)) (k .version) ∙ n
+
+  module _ (events : List Event) where
+    r : Running s flash memory e w (cut s flash memory events)
+    r = runs s flash memory e w events (start s flash memory) (begins s flash memory e w)
+
+    at-cut : AtCut s flash memory events
+    at-cut =
+        record {
+          answered = says s flash memory e w events (start s flash memory) (begins s flash memory e w);
+          blocks = block-at s flash memory e w (cut s flash memory events) r;
+          finished = finished-at s flash memory e w (cut s flash memory events) r;
+          old = old-at s flash memory e w (cut s flash memory events) r;
+          others = other-at s flash memory e w (cut s flash memory events) r;
+          flash-size = length-at s flash memory e w (cut s flash memory events) r;
+          session = session-after s flash memory e w events (start s flash memory);
+          kept = r .kept;
+          memory-same = r .memory-is;
+        }
+
+    -- ---- the second run
+    second-ends : (q : SecondRun board s (cut s flash memory events .flash) memory)
+        → secondFlash board s (cut s flash memory events .flash) memory q ≡ performIn s memory (windowActions s) flash
+    second-ends q =
+        way-flash board (q .way) m₃ (q .way-succeeds) (adds-none (q .way) (m₃ .session) (o₃ .agreed)) sound₃ (o₃ .window) (o₃ .awake)
+        ∙ same-window (m₃ .session) s (o₃ .first-is) (o₃ .size-is) (q .same-marks) (m₃ .memory) (m₃ .flash)
+        ∙ ap (performIn s (m₃ .memory) (windowActions s)) (o₃ .flash-is ∙ ap (λ (m : Machine). m .flash) left₁ ∙ r .flash-is)
+        ∙ after-cut s flash (part-within (length flash) (length memory) s e .0) memory (part-within (length flash) (length memory) s e .1)
+        (marks-sound s flash memory e w) (m₃ .memory) (subst (λ (n : ℕ). toBytes (s .size) ≤ n) (sym long₃) (part-within (length flash) (length memory) s e .1))
+        (q .same-bytes) (cut s flash memory events .count)
+      where
+        f₁ : List ℕ
+        f₁ = cut s flash memory events .flash
+
+        m₁ : Machine
+        m₁ = agreeing board (q .info) f₁ (q .other)
+
+        left₁ : m₁ ≡ record { session = withVersion (min (argument 0 (q .info)) 2) (numbered fresh (q .info)); flash = f₁; memory = q .other }
+        left₁ = info-leaves board (q .info) f₁ (q .other) (q .info-is) (q .info-succeeds)
+
+        long₁ : length (m₁ .memory) ≡ length memory
+        long₁ = ap (λ (m : Machine). length (m .memory)) left₁ ∙ q .other-size
+
+        o₂ : Open (s .first) (s .size) (length (m₁ .memory)) (m₁ .flash) (opening board (q .info) (q .create) f₁ (q .other))
+        o₂ =
+            create-opens board (m₁ .session) (q .create) (m₁ .flash) (m₁ .memory) (q .create-is) (q .create-succeeds)
+            (ap (λ (m : Machine). m .session .marks) left₁) (s .first) (s .size) (q .agreed) (ap (λ (m : Machine). m .session .suspended) left₁)
+            (q .same-first) (q .same-size)
+
+        m₃ : Machine
+        m₃ = marking board (q .info) (q .create) (q .calls) f₁ (q .other)
+
+        o₃ : Open (s .first) (s .size) (length (m₁ .memory)) (m₁ .flash) m₃
+        o₃ =
+            calls-open board (s .first) (s .size) (length (m₁ .memory)) (m₁ .flash)
+            (subst (λ (n : ℕ). toBytes (s .size) ≤ n) (sym long₁) (part-within (length flash) (length memory) s e .1))
+            (q .calls) (q .allowed) (opening board (q .info) (q .create) f₁ (q .other)) o₂
+
+        long₃ : length (m₃ .memory) ≡ length memory
+        long₃ = o₃ .memory-long ∙ long₁
+
+        wide₃ : length (m₃ .flash) ≡ length flash
+        wide₃ = ap length (o₃ .flash-is) ∙ ap (λ (m : Machine). length (m .flash)) left₁ ∙ length-at s flash memory e w (cut s flash memory events) r
+
+        sound₃ : sound (length (m₃ .flash)) (length (m₃ .memory)) (m₃ .session) ≡ true
+        sound₃ =
+            ap (λ (n : ℕ). sound n (length (m₃ .memory)) (m₃ .session)) wide₃
+            ∙ ap (λ (n : ℕ). sound (length flash) n (m₃ .session)) long₃
+            ∙ sound-as (length flash) (length memory) s (m₃ .session) e (subst (λ (v : ℕ). v ≤ 2) (sym (o₃ .agreed)) (omega arith))
+            (o₃ .window ∙ sym w) (o₃ .first-is) (o₃ .size-is) (q .same-marks)
+
+-- Demand 3: "for every two such lists, the chip equals that of the flush never stopped"
+pub demand-3 : (board : Board) (s : Session) (flash memory : List ℕ)
+    → soundAt (board .lpc) (length flash) (length memory) s ≡ true → s .window ≡ Write
+    → (events : List Event)
+    → AtCut s flash memory events
+    × ((second : SecondRun board s (cut s flash memory events .flash) memory) (way : Way)
+    → Succeeds board way (unstopped s flash memory) → AddsNone way s
+    → secondFlash board s (cut s flash memory events .flash) memory second ≡ unstoppedFlash board way s flash memory)
+demand-3 board s flash memory sounds w events = (
+  at-cut board s flash memory sounds w events,
+  λ second way ok none.
+      second-ends board s flash memory sounds w events second ∙ sym (never-stopped board s flash memory sounds w way ok none),
+)

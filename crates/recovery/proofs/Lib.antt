@@ -1,0 +1,3 @@
+pub mod Demand
+mod FirstList
+mod SecondList

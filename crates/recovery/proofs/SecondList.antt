@@ -1,0 +1,281 @@
+-- The second run: what each of its calls leaves.
+use mathlib.Core.Path.{_≡_, refl, sym, ap, _∙_, subst}
+use mathlib.Core.Bool.{Bool, true, false, cond, not, _&&_, _||_}
+use mathlib.Core.List.{List, [], _∷_}
+use mathlib.Core.Logic.{_⊎_, inl, inr, ⊎-elim}
+use Prim.Native.Nat.{ℕ, _+_, _≤_, _<_, min}
+use native.Mathlib.Nat.{le-trans}
+use native.Mathlib.Omega.{arith}
+use lib.Dec.{ltb, eqb}
+use lib.ListN.{length, getD, replicate, length-replicate}
+use borrow.Author.Tests.{ne-eqb, le-ltb}
+use Rattle.units.specs.Units.{toBytes, roundUp}
+use Rattle.units.proofs.Cases.{decided}
+use Rattle.buffers.specs.Ranges.{range, replace}
+use Rattle.buffers.proofs.Replace.{range-length, replace-length}
+use Rattle.chip.specs.Actions.{erased}
+use Rattle.chip.proofs.Laws.{erased-length}
+use Rattle.session.specs.declared.Session.{Session}
+use Rattle.session.specs.declared.Window.the-variants.{Closed, Write}
+use Rattle.session.specs.Record.{clean, fresh}
+use Rattle.session.specs.Soundness.{sound, sessionSound}
+use Rattle.session.proofs.Facts.{part-within}
+use Rattle.flush.specs.Actions.{Action, dirty, erasedMark, flushActions, actionsFrom, blockActions}
+use Rattle.flush.specs.Window.{windowActions, partEnd, performIn, flushWhole}
+use Rattle.flush.proofs.Whole.{in-none}
+use Rattle.mailbox.specs.declared.Board.{Board}
+use Rattle.mailbox.specs.declared.refusals.Reason.{Reason}
+use Rattle.mailbox.specs.declared.refusals.Reason.the-variants.{Accepted, System, Repeated, Unknown, Suspended, Windowless, Argument}
+use Rattle.mailbox.specs.Registers.{commandOf, argument, number}
+use Rattle.mailbox.specs.Refusals.{blocksNamed, flushMarks, reasonFor, codeFor}
+use Rattle.mailbox.specs.Commands.{Outcome, withVersion, sizeFor, closing, hint, marked, created, flushedWith, flushed}
+use Rattle.mailbox.specs.Mediator.{numbered, isCreate, refused, served, answerTo, mediate}
+use Rattle.mailbox.proofs.Accepting.{Passed, passed, Measured, measured, named-within, create-argument, mark-argument, mediate-as}
+use Rattle.mailbox.proofs.Front.{size-fits}
+use Rattle.recovery.specs.Second.{Machine, response, sent, Call, send, write, Allowed, AllAllowed, called, calledAll, begun, agreeing, opening, marking}
+
+-- ---- a response of 1 is that of a command that no check refused
+module _ (board : Board) (s : Session) (registers flash memory : List ℕ) where
+  abbrev code : Outcome → ℕ
+  code o = getD (o .answer .registers) 13 0
+
+  reason : Reason
+  reason = reasonFor board s registers (length flash) (length memory)
+
+  late : (a b : ℕ) → (a ≡ 1 → ⊥) → (b ≡ 1 → ⊥) → (t : Bool) → cond t a b ≡ 1 → ⊥
+  late a b p q true e = p e
+  late a b p q false e = q e
+
+  refused-code : (r : Reason) → (r ≡ Accepted → ⊥) → code (answerTo r board s registers flash memory) ≡ 1 → ⊥
+  unfolding answerTo
+  refused-code Accepted n e = n refl
+  refused-code System n e = omega arith
+  refused-code Repeated n e = late 2 8 (λ q. omega arith) (λ q. omega arith) (ltb (s .version) 2) e
+  refused-code Unknown n e = omega arith
+  refused-code Suspended n e = late 5 6 (λ q. omega arith) (λ q. omega arith) (ltb (s .version) 2) e
+  refused-code Windowless n e = late 2 7 (λ q. omega arith) (λ q. omega arith) (ltb (s .version) 2) e
+  refused-code Argument n e =
+      ⊎-elim
+      (λ (t : isCreate registers ≡ true). two (rw t at e))
+      (λ (t : isCreate registers ≡ false). two (rw t at e))
+      (decided (isCreate registers))
+    where
+      two : _≡_ {A = ℕ} 2 1 → ⊥
+      two q = omega arith
+
+  accepted : code (mediate board s registers flash memory) ≡ 1 → reasonFor board s registers (length flash) (length memory) ≡ Accepted
+  accepted h = go (reasonFor board s registers (length flash) (length memory)) refl
+    where
+      no : (r : Reason) → reasonFor board s registers (length flash) (length memory) ≡ r → (r ≡ Accepted → ⊥) → ⊥
+      no r e n = refused-code r n (ap code (sym (mediate-as board s registers flash memory r e)) ∙ h)
+
+      go : (r : Reason) → reasonFor board s registers (length flash) (length memory) ≡ r → reasonFor board s registers (length flash) (length memory) ≡ Accepted
+      go Accepted e = e
+      go System e = absurd (no System e (λ q. let z : _≡_ {A = ℕ} 0 1 = cc in omega arith))
+      go Repeated e = absurd (no Repeated e (λ q. let z : _≡_ {A = ℕ} 0 1 = cc in omega arith))
+      go Unknown e = absurd (no Unknown e (λ q. let z : _≡_ {A = ℕ} 0 1 = cc in omega arith))
+      go Suspended e = absurd (no Suspended e (λ q. let z : _≡_ {A = ℕ} 0 1 = cc in omega arith))
+      go Windowless e = absurd (no Windowless e (λ q. let z : _≡_ {A = ℕ} 0 1 = cc in omega arith))
+      go Argument e = absurd (no Argument e (λ q. let z : _≡_ {A = ℕ} 0 1 = cc in omega arith))
+
+  -- and leaves what its command says
+  carried : (k : ℕ) → commandOf registers ≡ k → reasonFor board s registers (length flash) (length memory) ≡ Accepted
+      → mediate board s registers flash memory ≡ served k board (numbered s registers) registers flash memory
+  unfolding answerTo
+  carried k e a =
+      mediate-as board s registers flash memory Accepted a
+      ∙ ap (λ (c : ℕ). served c board (numbered s registers) registers flash memory) e
+
+-- what a mailbox command leaves, as a machine
+abbrev machine : Outcome → Machine
+machine o = record { session = o .answer .session; flash = o .flash; memory = o .memory }
+
+-- ---- a flush without marks leaves the flash
+clean-none : flushActions clean ≡ []
+unfolding flushActions actionsFrom blockActions
+clean-none = refl
+
+flush-clean : (s : Session) (memory flash : List ℕ) → s .marks ≡ clean → flushWhole s memory flash .flash ≡ flash
+unfolding flushWhole
+flush-clean s memory flash c =
+    ⊎-elim
+    (λ (t : sound (length flash) (length memory) s ≡ true).
+    let p = part-within (length flash) (length memory) s t in
+    rw t (ap (λ (marks : List ℕ). performIn s memory (flushActions marks) flash) c
+    ∙ ap (λ (actions : List Action). performIn s memory actions flash) clean-none
+    ∙ in-none s flash (p .0) memory (p .1)))
+    (λ (t : sound (length flash) (length memory) s ≡ false). rw t)
+    (decided (sound (length flash) (length memory) s))
+
+-- ---- FLUSH that adds no mark, on a sound session
+flush-kept : (s : Session) (registers memory flash : List ℕ) → sound (length flash) (length memory) s ≡ true
+    → flushWhole (numbered s registers) memory flash .flash ≡ performIn s memory (windowActions s) flash
+unfolding flushWhole sound sessionSound performIn
+flush-kept s registers memory flash e = rw e
+
+pub flush-leaves : (board : Board) (s : Session) (registers flash memory : List ℕ) → commandOf registers ≡ 8
+    → getD (mediate board s registers flash memory .answer .registers) 13 0 ≡ 1 → flushMarks s registers ≡ false
+    → sound (length flash) (length memory) s ≡ true → mediate board s registers flash memory .flash ≡ performIn s memory (windowActions s) flash
+unfolding served
+flush-leaves board s registers flash memory c ok none e =
+    ap (λ (o : Outcome). o .flash) (carried board s registers flash memory 8 c (accepted board s registers flash memory ok))
+    ∙ ap (λ (t : Bool). flushedWith (cond t (marked dirty (numbered s registers) registers) (numbered s registers)) registers flash memory .flash) none
+    ∙ flush-kept s registers memory flash e
+
+-- ---- a machine with the window open again
+pub record Open (first size long : ℕ) (flash : List ℕ) (m : Machine) : Type 0 where
+  pub agreed : m .session .version ≡ 2
+  pub awake : m .session .suspended ≡ false
+  pub window : m .session .window ≡ Write
+  pub first-is : m .session .first ≡ first
+  pub size-is : m .session .size ≡ size
+  pub flash-is : m .flash ≡ flash
+  pub memory-long : length (m .memory) ≡ long
+
+-- ---- GET_INFO on a fresh session
+pub info-leaves : (board : Board) (registers flash memory : List ℕ) → commandOf registers ≡ 2 → response board registers (begun flash memory) ≡ 1
+    → sent board registers (begun flash memory)
+    ≡ record { session = withVersion (min (argument 0 registers) 2) (numbered fresh registers); flash = flash; memory = memory }
+unfolding served
+info-leaves board registers flash memory c ok =
+    ap machine (carried board fresh registers flash memory 2 c (accepted board fresh registers flash memory ok))
+
+-- ---- CREATE_WRITE_WINDOW on a session without marks
+module _ (board : Board) (s : Session) (registers flash memory : List ℕ) (c : commandOf registers ≡ 6)
+    (ok : getD (mediate board s registers flash memory .answer .registers) 13 0 ≡ 1) (none : s .marks ≡ clean) where
+  create-leaves : mediate board s registers flash memory ≡ created Write board (numbered s registers) registers flash memory
+  unfolding served
+  create-leaves = carried board s registers flash memory 6 c (accepted board s registers flash memory ok)
+
+  create-flash : mediate board s registers flash memory .flash ≡ flash
+  create-flash = ap (λ (o : Outcome). o .flash) create-leaves ∙ flush-clean (numbered s registers) memory flash none
+
+  create-memory : length (mediate board s registers flash memory .memory) ≡ length memory
+  create-memory =
+      ap (λ (o : Outcome). length (o .memory)) create-leaves
+      ∙ ap (λ (f : List ℕ). length (replace 0 (range (toBytes o) (toBytes z) f) memory)) (flush-clean (numbered s registers) memory flash none)
+      ∙ replace-length 0 (range (toBytes o) (toBytes z) flash) memory (omega (arith, long, fits .1, m .memory-sized .whole))
+    where
+      p : Passed board s registers (length flash) (length memory)
+      p = passed board s registers (length flash) (length memory) (accepted board s registers flash memory ok)
+
+      m : Measured (length flash) (length memory) s
+      m = measured (board .lpc) (length flash) (length memory) s (p .sounds)
+
+      o : ℕ
+      o = number 2 0 registers
+
+      z : ℕ
+      z = sizeFor (roundUp (length flash)) (roundUp (length memory)) o (hint s registers)
+
+      fits : (o + z ≤ roundUp (length flash)) × (z ≤ roundUp (length memory))
+      fits =
+          size-fits (roundUp (length flash)) (roundUp (length memory)) o (hint s registers)
+          (create-argument s registers (roundUp (length flash)) (p .argued) 6 (inr refl) c)
+
+      long : length (range (toBytes o) (toBytes z) flash) ≡ toBytes z
+      long = range-length (toBytes o) (toBytes z) flash (omega (arith, fits .0, m .flash-sized .whole))
+
+  pub create-opens : (first size : ℕ) → s .version ≡ 2 → s .suspended ≡ false
+      → mediate board s registers flash memory .answer .session .first ≡ first → mediate board s registers flash memory .answer .session .size ≡ size
+      → Open first size (length memory) flash (machine (mediate board s registers flash memory))
+  create-opens first size v a f z =
+      record {
+        agreed = ap (λ (o : Outcome). o .answer .session .version) create-leaves ∙ v;
+        awake = ap (λ (o : Outcome). o .answer .session .suspended) create-leaves ∙ a;
+        window = ap (λ (o : Outcome). o .answer .session .window) create-leaves;
+        first-is = f;
+        size-is = z;
+        flash-is = create-flash;
+        memory-long = create-memory;
+      }
+
+-- ---- the list: every command and host write keeps the window open and the flash as it is
+module _ (board : Board) (first size long : ℕ) (flash : List ℕ) (room : toBytes size ≤ long) where
+  -- a session that differs in its marks and its previous number alone
+  kept-open : (m : Machine) → Open first size long flash m → (t : Session) → t .version ≡ m .session .version → t .suspended ≡ m .session .suspended
+      → t .window ≡ m .session .window → t .first ≡ m .session .first → t .size ≡ m .session .size
+      → (memory : List ℕ) → length memory ≡ length (m .memory)
+      → Open first size long flash (record { session = t; flash = m .flash; memory = memory })
+  kept-open m o t v a w f z memory l =
+      record {
+        agreed = v ∙ o .agreed;
+        awake = a ∙ o .awake;
+        window = w ∙ o .window;
+        first-is = f ∙ o .first-is;
+        size-is = z ∙ o .size-is;
+        flash-is = o .flash-is;
+        memory-long = l ∙ o .memory-long;
+      }
+
+  module _ (m : Machine) (o : Open first size long flash m) (registers : List ℕ) (k : ℕ) (is : commandOf registers ≡ k) (w : (k ≡ 7) ⊎ (k ≡ 10)) where
+    abbrev left : Reason → Machine
+    left r = machine (answerTo r board (m .session) registers (m .flash) (m .memory))
+
+    not-create : isCreate registers ≡ false
+    not-create =
+        ⊎-elim
+        (λ (e : k ≡ 7). rw (is ∙ e))
+        (λ (e : k ≡ 10). rw (is ∙ e))
+        w
+
+    refused-same : Open first size long flash (record { session = numbered (m .session) registers; flash = m .flash; memory = m .memory })
+    refused-same = kept-open m o (numbered (m .session) registers) refl refl refl refl refl (m .memory) refl
+
+    marked-same : (mark : ℕ) (memory : List ℕ) → length memory ≡ length (m .memory)
+        → Open first size long flash (record { session = marked mark (numbered (m .session) registers) registers; flash = m .flash; memory = memory })
+    marked-same mark memory l = kept-open m o (marked mark (numbered (m .session) registers) registers) refl refl refl refl refl memory l
+
+    accepted-open : reasonFor board (m .session) registers (length (m .flash)) (length (m .memory)) ≡ Accepted → Open first size long flash (left Accepted)
+    unfolding answerTo served
+    accepted-open a =
+        ⊎-elim
+        (λ (e : k ≡ 7).
+        subst (λ (c : ℕ). Open first size long flash (machine (served c board (numbered (m .session) registers) registers (m .flash) (m .memory)))) (sym (is ∙ e))
+        (marked-same dirty (m .memory) refl))
+        (λ (e : k ≡ 10).
+        subst (λ (c : ℕ). Open first size long flash (machine (served c board (numbered (m .session) registers) registers (m .flash) (m .memory)))) (sym (is ∙ e))
+        (marked-same erasedMark (erased (toBytes (blocksNamed (m .session) registers .start)) (toBytes (blocksNamed (m .session) registers .count)) (m .memory)) (same (inr e))))
+        w
+      where
+        p : Passed board (m .session) registers (length (m .flash)) (length (m .memory))
+        p = passed board (m .session) registers (length (m .flash)) (length (m .memory)) a
+
+        z : Measured (length (m .flash)) (length (m .memory)) (m .session)
+        z = measured (board .lpc) (length (m .flash)) (length (m .memory)) (m .session) (p .sounds)
+
+        same : (k ≡ 7) ⊎ (k ≡ 10)
+            → length (erased (toBytes (blocksNamed (m .session) registers .start)) (toBytes (blocksNamed (m .session) registers .count)) (m .memory)) ≡ length (m .memory)
+        same q =
+            let n = named-within (m .session) registers (mark-argument (m .session) registers (roundUp (length (m .flash))) (p .argued) k q is) in
+            erased-length (toBytes (blocksNamed (m .session) registers .start)) (toBytes (blocksNamed (m .session) registers .count)) (m .memory)
+            (omega (arith, n, z .fits .in-memory, z .memory-sized .whole))
+
+    answered-open : (r : Reason) → reasonFor board (m .session) registers (length (m .flash)) (length (m .memory)) ≡ r → Open first size long flash (left r)
+    unfolding answerTo
+    answered-open Accepted e = accepted-open e
+    answered-open System e = o
+    answered-open Repeated e = refused-same
+    answered-open Unknown e = refused-same
+    answered-open Suspended e = refused-same
+    answered-open Windowless e = refused-same
+    answered-open Argument e =
+        subst (λ (t : Bool). Open first size long flash (machine (cond t
+        (closing (codeFor (m .session .version) Argument) (numbered (m .session) registers) registers (m .flash) (m .memory))
+        (refused (codeFor (m .session .version) Argument) (numbered (m .session) registers) registers (m .flash) (m .memory))))) (sym not-create) refused-same
+
+    sent-open : Open first size long flash (sent board registers m)
+    sent-open =
+        subst (λ (x : Outcome). Open first size long flash (machine x))
+        (sym (mediate-as board (m .session) registers (m .flash) (m .memory) (reasonFor board (m .session) registers (length (m .flash)) (length (m .memory))) refl))
+        (answered-open (reasonFor board (m .session) registers (length (m .flash)) (length (m .memory))) refl)
+
+  call-open : (call : Call) → Allowed size call → (m : Machine) → Open first size long flash m → Open first size long flash (called board call m)
+  call-open (send registers) w m o = sent-open m o registers (commandOf registers) refl w
+  call-open (write at bytes) w m o =
+      kept-open m o (m .session) refl refl refl refl refl (replace at bytes (m .memory))
+      (replace-length at bytes (m .memory) (omega (arith, o .memory-long)))
+
+  pub calls-open : (calls : List Call) → AllAllowed size calls → (m : Machine) → Open first size long flash m → Open first size long flash (calledAll board calls m)
+  calls-open [] w m o = o
+  calls-open (call ∷ calls) w m o = calls-open calls (w .1) (called board call m) (call-open call (w .0) m o)
