@@ -1,5 +1,5 @@
--- Chip actions: document 01, "Numbers" and "Chip actions". The flash is the bytes lent for the window's blocks: block b of it is written
--- from block b of the window.
+-- Chip actions: document 01, "Numbers" and "Chip actions". The flash here is the part of the chip that is lent for the window's blocks:
+-- block b of it is written from block b of the window. That an action outside it changes nothing is house.
 use Prim.Native.Nat.{ℕ, _+_, _*_}
 use mathlib.Core.Bool.{Bool, _&&_, cond}
 use mathlib.Core.List.{List}
@@ -27,7 +27,7 @@ erased at n flash = replace at (replicate n 0xff) flash
 abbrev pub eraseBlock : ℕ → List ℕ → List ℕ
 eraseBlock b flash = cond (hasBlock b flash) (erased (toBytes b) blockBytes flash) flash
 
--- page p of block b lies in the flash and in the window
+-- block b has a page p, and lies whole in the flash and in the window
 abbrev pub hasPage : ℕ → ℕ → List ℕ → List ℕ → Bool
 hasPage b p window flash = ltb p blockPages && (hasBlock b flash && hasBlock b window)
 

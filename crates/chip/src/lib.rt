@@ -18,7 +18,7 @@ const PAGES: u32 = 16;
 // What an erased byte holds.
 const ERASED: u8 = 0xff;
 
-// Erases a block: only its own bytes are lent on, and filled.
+// Erases a block: the action itself, `fill`, is lent only the block's own bytes.
 pub fn erase_block(flash: &mut [u8], block: Blocks) -> bool
     ensures { λ r. ⌜ (r ≡ hasBlock (block .0) (now (flash .entry)))
         × (now (flash .exit) ≡ eraseBlock (block .0) (now (flash .entry))) ⌝ }

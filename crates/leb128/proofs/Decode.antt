@@ -11,11 +11,11 @@ use lib.Seq.{drop-cons}
 use borrow.Author.Tests.{lt-ltb, le-ltb, eq-eqb, ne-eqb, ltb-true, ltb-false}
 use Rattle.leb128.specs.declared.Read.{Read}
 use Rattle.leb128.specs.declared.Read.the-variants.{Number, Short, Malformed}
-use Rattle.leb128.specs.Groups.{decode, before, bounded, readAt}
+use Rattle.leb128.specs.Groups.{Decoded, found, cutShort, notShortest, decode, before, bounded, readAt}
 use Rattle.leb128.specs.Run.{Run}
 
 -- a byte below 128 ends the number
-pub decode-last : (s : List ℕ) (i : ℕ) → i < length s → getD s i 0 < 128 → decode (drop i s) ≡ Number (getD s i 0) 1
+pub decode-last : (s : List ℕ) (i : ℕ) → i < length s → getD s i 0 < 128 → decode (drop i s) ≡ found (getD s i 0) 1
 unfolding decode
 decode-last s i h k = rw (drop-cons s i 0 h, lt-ltb _ _ k)
 
@@ -25,12 +25,12 @@ unfolding decode
 decode-more s i h k = rw (drop-cons s i 0 h, le-ltb _ _ k, add-one)
 
 -- past the end there is nothing
-pub decode-end : (s : List ℕ) (i : ℕ) → length s ≤ i → decode (drop i s) ≡ Short
+pub decode-end : (s : List ℕ) (i : ℕ) → length s ≤ i → decode (drop i s) ≡ cutShort
 unfolding decode
 decode-end s i h = rw drop-of-length-le
 
 -- what holds of the number read at j holds of that read at an offset before it, if groups that go on lie between and keep it
-pub spread : (P : Read → Type 0) → ((low : ℕ) (r : Read) → P r → P (before low r)) → (s : List ℕ) (d at j : ℕ) → at + d ≡ j
+pub spread : (P : Decoded → Type 0) → ((low : ℕ) (r : Decoded) → P r → P (before low r)) → (s : List ℕ) (d at j : ℕ) → at + d ≡ j
     → ((i : ℕ) → i < j → at ≤ i → (128 ≤ getD s i 0) × (i < length s)) → P (decode (drop j s)) → P (decode (drop at s))
 spread P keeps s zero at j e run p = subst (λ (n : ℕ). P (decode (drop n s))) (same at j e) p
   where
@@ -43,17 +43,17 @@ spread P keeps s (suc d) at j e run p =
     (spread P keeps s d (at + 1) j (omega arith) (λ i h k. run i h (omega arith)) p))
 
 -- refused, and so is whatever it stands behind
-pub data Refused : Read → Type 0 where
-  malformed : Refused Malformed
-  large : {value size : ℕ} → 2 ^ 32 ≤ value → Refused (Number value size)
+pub data Refused : Decoded → Type 0 where
+  longer : Refused notShortest
+  large : {value size : ℕ} → 2 ^ 32 ≤ value → Refused (found value size)
 
-refused-before : (low : ℕ) (r : Read) → Refused r → Refused (before low r)
-refused-before low Malformed malformed = malformed
-refused-before low (Number value size) (large h) =
+refused-before : (low : ℕ) (r : Decoded) → Refused r → Refused (before low r)
+refused-before low notShortest longer = longer
+refused-before low (found value size) (large h) =
     rw (ne-eqb value 0 (λ e. omega arith)) (large {value = value * 128 + low} (omega arith))
 
-refused-bounded : (at : ℕ) {r : Read} → Refused r → bounded at r ≡ Malformed
-refused-bounded at malformed = refl
+refused-bounded : (at : ℕ) {r : Decoded} → Refused r → bounded at r ≡ Malformed
+refused-bounded at longer = refl
 refused-bounded at (large {value} h) = rw (le-ltb value (2 ^ 32) h)
 
 module _ (s : List ℕ) (at last : ℕ) (run : Run s at last) where
@@ -62,11 +62,11 @@ module _ (s : List ℕ) (at last : ℕ) (run : Run s at last) where
   unfolding readAt
   read-short h =
       ap (bounded at)
-      (spread (λ r. r ≡ Short) (λ low r e. ap (before low) e) s (last - at) at last (omega (arith, run .rises)) (run .set) (decode-end s last h))
+      (spread (λ r. r ≡ cutShort) (λ low r e. ap (before low) e) s (last - at) at last (omega (arith, run .rises)) (run .set) (decode-end s last h))
 
   -- the number behind offset i, with a group before it
-  module _ (i value : ℕ) (low : at < i) (high : i ≤ last) (read : decode (drop i s) ≡ Number value (last + 1 - i)) where
-    pub read-before : decode (drop (i - 1) s) ≡ before (getD s (i - 1) 0 % 128) (Number value (last + 1 - i))
+  module _ (i value : ℕ) (low : at < i) (high : i ≤ last) (read : decode (drop i s) ≡ found value (last + 1 - i)) where
+    pub read-before : decode (drop (i - 1) s) ≡ before (getD s (i - 1) 0 % 128) (found value (last + 1 - i))
     read-before =
         let here = run .set (i - 1) (omega arith) (omega arith) in
         decode-more s (i - 1) (here .1) (here .0)
@@ -84,7 +84,7 @@ module _ (s : List ℕ) (at last : ℕ) (run : Run s at last) where
 
     -- not the shortest form
     pub read-zero : value ≡ 0 → readAt s at ≡ Malformed
-    read-zero e = refuse (subst Refused (sym (read-before ∙ rw (eq-eqb value 0 e))) malformed)
+    read-zero e = refuse (subst Refused (sym (read-before ∙ rw (eq-eqb value 0 e))) longer)
 
     -- 2^32 or more with the next group
     pub read-large : 2 ^ 25 ≤ value → readAt s at ≡ Malformed
@@ -93,16 +93,16 @@ module _ (s : List ℕ) (at last : ℕ) (run : Run s at last) where
         (large {value = value * 128 + getD s (i - 1) 0 % 128} {size = last + 1 - i + 1} (omega arith)))
 
     -- one group more
-    pub read-more : 0 < value → decode (drop (i - 1) s) ≡ Number (value * 128 + getD s (i - 1) 0 % 128) (last + 1 - (i - 1))
+    pub read-more : 0 < value → decode (drop (i - 1) s) ≡ found (value * 128 + getD s (i - 1) 0 % 128) (last + 1 - (i - 1))
     read-more h =
         read-before ∙ rw (ne-eqb value 0 (λ e. omega arith))
-        (ap (λ (n : ℕ). Number (value * 128 + getD s (i - 1) 0 % 128) n) (count i low high))
+        (ap (λ (n : ℕ). found (value * 128 + getD s (i - 1) 0 % 128) n) (count i low high))
       where
         count : (i : ℕ) → at < i → i ≤ last → last + 1 - i + 1 ≡ last + 1 - (i - 1)
         count i h k = omega arith
 
   -- all groups are read
-  pub read-whole : (value : ℕ) → decode (drop at s) ≡ Number value (last + 1 - at) → value < 2 ^ 32 → readAt s at ≡ Number value (last + 1)
+  pub read-whole : (value : ℕ) → decode (drop at s) ≡ found value (last + 1 - at) → value < 2 ^ 32 → readAt s at ≡ Number value (last + 1)
   unfolding readAt
   read-whole value e h =
       ap (bounded at) e ∙ rw (lt-ltb value (2 ^ 32) h) (ap (λ (n : ℕ). Number value n) (omega (arith, run .rises)))

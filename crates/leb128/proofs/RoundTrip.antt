@@ -16,22 +16,22 @@ use Rattle.units.proofs.Cases.{below-or, decided}
 use Rattle.leb128.specs.declared.Read.{Read}
 use Rattle.leb128.specs.declared.Read.the-variants.{Number, Short, Malformed}
 use Rattle.leb128.specs.declared.Written.the-variants.{Next, NoRoom}
-use Rattle.leb128.specs.Groups.{groups, encode, before, decode, bounded, readAt, writtenAt, bytesAfter}
+use Rattle.leb128.specs.Groups.{groups, encode, Decoded, found, cutShort, notShortest, before, decode, bounded, readAt, writtenAt, bytesAfter}
 use Rattle.leb128.proofs.Encode.{encode-small, encode-large, encode-some}
 
 -- ---- an encoding is read
 
-one-group : (n : ℕ) (rest : List ℕ) → n < 128 → decode (n ∷ rest) ≡ Number n 1
+one-group : (n : ℕ) (rest : List ℕ) → n < 128 → decode (n ∷ rest) ≡ found n 1
 unfolding decode
 one-group n rest h = rw (lt-ltb n 128 h)
 
-several-groups : (n size : ℕ) (bytes : List ℕ) → 128 ≤ n → decode bytes ≡ Number (n / 128) size
-    → decode ((n % 128 + 128) ∷ bytes) ≡ Number n (suc size)
+several-groups : (n size : ℕ) (bytes : List ℕ) → 128 ≤ n → decode bytes ≡ found (n / 128) size
+    → decode ((n % 128 + 128) ∷ bytes) ≡ found n (suc size)
 unfolding decode
 several-groups n size bytes h e =
     let goes-on : ltb (n % 128 + 128) 128 ≡ false = le-ltb (n % 128 + 128) 128 (omega arith) in
     let shortest : eqb (n / 128) 0 ≡ false = ne-eqb (n / 128) 0 (λ z. omega arith) in
-    rw (goes-on, e, shortest) (ap (λ (v : ℕ). Number v (size + 1)) value ∙ ap (λ (k : ℕ). Number n k) count)
+    rw (goes-on, e, shortest) (ap (λ (v : ℕ). found v (size + 1)) value ∙ ap (λ (k : ℕ). found n k) count)
   where
     value : n / 128 * 128 + (n % 128 + 128) % 128 ≡ n
     value = omega arith
@@ -39,7 +39,7 @@ several-groups n size bytes h e =
     count : size + 1 ≡ suc size
     count = omega arith
 
-decode-groups : (most n : ℕ) (rest : List ℕ) → n ≤ most → decode (groups most n ++ rest) ≡ Number n (length (groups most n))
+decode-groups : (most n : ℕ) (rest : List ℕ) → n ≤ most → decode (groups most n ++ rest) ≡ found n (length (groups most n))
 unfolding groups
 decode-groups zero n rest h = one-group n rest (omega arith)
 decode-groups (suc most) n rest h =
@@ -49,17 +49,17 @@ decode-groups (suc most) n rest h =
     (several-groups n (length (groups most (n / 128))) (groups most (n / 128) ++ rest) l (decode-groups most (n / 128) rest (omega arith))))
     (below-or n 128)
 
-pub decode-encode : (n : ℕ) (rest : List ℕ) → decode (encode n ++ rest) ≡ Number n (length (encode n))
+pub decode-encode : (n : ℕ) (rest : List ℕ) → decode (encode n ++ rest) ≡ found n (length (encode n))
 unfolding encode
 decode-encode n rest = decode-groups n n rest (omega arith)
 
 -- ---- nothing else is
 
 -- what `decode` says of bytes: they begin with the encoding of the number, which has so many bytes
-Encoded : List ℕ → Read → Type 0
-Encoded s (Number n size) = (s ≡ encode n ++ drop size s) × (size ≡ length (encode n))
-Encoded s Short = Unit
-Encoded s Malformed = Unit
+Encoded : List ℕ → Decoded → Type 0
+Encoded s (found n size) = (s ≡ encode n ++ drop size s) × (size ≡ length (encode n))
+Encoded s cutShort = Unit
+Encoded s notShortest = Unit
 
 -- a group that goes on, before the encoding of a number other than 0
 encode-more : (b rest : ℕ) → 128 ≤ b → b < 256 → 0 < rest → encode (rest * 128 + b % 128) ≡ b ∷ encode rest
@@ -74,15 +74,15 @@ encode-more b rest l h p =
     high : (rest * 128 + b % 128) / 128 ≡ rest
     high = omega arith
 
-encoded-one : (b : ℕ) (bs : List ℕ) → b < 128 → Encoded (b ∷ bs) (Number b 1)
+encoded-one : (b : ℕ) (bs : List ℕ) → b < 128 → Encoded (b ∷ bs) (found b 1)
 unfolding Encoded
 encoded-one b bs h = (rw (encode-small b h), rw (encode-small b h))
 
-encoded-more : (b : ℕ) (bs : List ℕ) → 128 ≤ b → b < 256 → (r : Read) → Encoded bs r → Encoded (b ∷ bs) (before (b % 128) r)
+encoded-more : (b : ℕ) (bs : List ℕ) → 128 ≤ b → b < 256 → (r : Decoded) → Encoded bs r → Encoded (b ∷ bs) (before (b % 128) r)
 unfolding Encoded
-encoded-more b bs l h Short e = tt
-encoded-more b bs l h Malformed e = tt
-encoded-more b bs l h (Number rest size) e =
+encoded-more b bs l h cutShort e = tt
+encoded-more b bs l h notShortest e = tt
+encoded-more b bs l h (found rest size) e =
     ⊎-elim
     (λ (z : eqb rest 0 ≡ true). rw z tt)
     (λ (z : eqb rest 0 ≡ false). rw z (whole (encode-more b rest l h (positive z))))
@@ -119,11 +119,11 @@ reads s at value next h =
     ∙ ap (bounded at) (decode-encode value (drop size (drop at s)))
     ∙ rw (lt-ltb value (2 ^ 32) (h .0)) (ap (λ (n : ℕ). Number value n) (sym (h .2)))
 
-found : (s : List ℕ) (at value next : ℕ) (r : Read) → Encoded (drop at s) r → bounded at r ≡ Number value next → Stands s at value next
+stands : (s : List ℕ) (at value next : ℕ) (r : Decoded) → Encoded (drop at s) r → bounded at r ≡ Number value next → Stands s at value next
 unfolding Encoded
-found s at value next Short x e = let z : _≡_ {A = ℕ} 0 1 = cc in absurd (omega arith)
-found s at value next Malformed x e = let z : _≡_ {A = ℕ} 0 1 = cc in absurd (omega arith)
-found s at value next (Number n size) x e =
+stands s at value next cutShort x e = let z : _≡_ {A = ℕ} 0 1 = cc in absurd (omega arith)
+stands s at value next notShortest x e = let z : _≡_ {A = ℕ} 0 1 = cc in absurd (omega arith)
+stands s at value next (found n size) x e =
     ⊎-elim
     (λ (t : ltb n (2 ^ 32) ≡ true). at-value t (rw t at e))
     (λ (t : ltb n (2 ^ 32) ≡ false). absurd (never (rw t at e)))
@@ -151,7 +151,7 @@ found s at value next (Number n size) x e =
 pub accepts : (s : List ℕ) → ((i : ℕ) → getD s i 0 < 256) → (at value next : ℕ) → (readAt s at ≡ Number value next) ↔ Stands s at value next
 unfolding readAt
 accepts s bytes at value next = (
-  λ e. found s at value next (decode (drop at s)) (encoded (drop at s) (λ i. subst (λ (b : ℕ). b < 256) (sym (getD-drop at s i 0)) (bytes (at + i)))) e,
+  λ e. stands s at value next (decode (drop at s)) (encoded (drop at s) (λ i. subst (λ (b : ℕ). b < 256) (sym (getD-drop at s i 0)) (bytes (at + i)))) e,
   reads s at value next,
 )
 

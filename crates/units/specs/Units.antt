@@ -13,6 +13,6 @@ toBytes b = b * blockBytes
 abbrev pub roundUp : ℕ → ℕ
 roundUp n = (n + (blockBytes - 1)) / blockBytes
 
--- the conversion the other way: rounded up, and the largest 32-bit count where that is not enough
+-- the conversion the other way: rounded up, and the largest 32-bit count where that is not enough (house)
 abbrev pub toBlocks : ℕ → ℕ
 toBlocks n = min (roundUp n) (2 ^ 32 - 1)

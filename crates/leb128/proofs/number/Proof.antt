@@ -4,15 +4,14 @@ use Prim.Native.Nat.{ℕ, _+_, _-_, _^_, _≤_, _<_}
 use native.Mathlib.Omega.{arith}
 use borrow.Author.Needs.{needs}
 use lib.ListN.{getD, drop}
-use Rattle.leb128.specs.declared.Read.the-variants.{Number}
-use Rattle.leb128.specs.Groups.{decode}
+use Rattle.leb128.specs.Groups.{found, decode}
 use Rattle.leb128.proofs.Decode.{decode-last, read-zero, read-large, read-more, read-whole}
 use Rattle.leb128.proofs.number.Statement.{statement}
 use Rattle.leb128.proofs.number.Tie as tie
 
 abbrev Inv-loop : tie.InvT-loop
 Inv-loop bytes at last i₀ value₀ i value =
-    (at ≤ i) × (i ≤ last) × (value < 2 ^ 32) × (decode (drop i bytes) ≡ Number value (last + 1 - i))
+    (at ≤ i) × (i ≤ last) × (value < 2 ^ 32) × (decode (drop i bytes) ≡ found value (last + 1 - i))
 
 abbrev μ-loop : tie.MeasureT-loop
 μ-loop bytes at last i₀ value₀ i value = i
@@ -31,7 +30,7 @@ loop-holds c =
       run .rises,
       omega arith,
       omega (arith, c .shared-slice-known .given last),
-      decode-last s last (c .before .pre .0) (run .clear (c .before .pre .0)) ∙ ap (λ (n : ℕ). Number (getD s last 0) n) (omega arith),
+      decode-last s last (c .before .pre .0) (run .clear (c .before .pre .0)) ∙ ap (λ (n : ℕ). found (getD s last 0) n) (omega arith),
     )
 
 returns : tie.Need-returns Inv-loop μ-loop
