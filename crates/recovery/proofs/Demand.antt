@@ -25,8 +25,8 @@ use Rattle.mailbox.specs.Commands.{withVersion}
 use Rattle.mailbox.specs.Mediator.{numbered}
 use Rattle.mailbox.proofs.Accepting.{measured}
 use Rattle.recovery.specs.Cut.{Event, State, cut, start, Kept, AtCut}
-use Rattle.recovery.specs.Second.{Machine, sent, Way, bySteps, byFlush, Succeeds, flashAfter, begun, agreeing, opening, marking, SecondRun, secondFlash, resumedIf, unstopped, AddsNone, unstoppedFlash}
-use Rattle.recovery.proofs.FirstList.{sound-as, marks-sound, Running, begins, runs, says, session-after, block-at, finished-at, old-at, other-at, length-at, resumed-kept, resume-said, steps-flash}
+use Rattle.recovery.specs.Second.{Machine, sent, Way, bySteps, byFlush, Succeeds, flashAfter, begun, agreeing, opening, marking, SecondRun, StepsSucceed, secondEnd, secondFlash, unstopped, AddsNone, unstoppedFlash}
+use Rattle.recovery.proofs.FirstList.{sound-as, marks-sound, Running, begins, runs, says, session-after, block-at, finished-at, old-at, other-at, length-at, resumed-kept, resume-said, steps-flash, steps-said}
 use Rattle.recovery.proofs.SecondList.{info-leaves, create-opens, Open, calls-open, flush-leaves}
 
 -- ---- either way to flush does all actions of the window
@@ -55,36 +55,33 @@ module _ (board : Board) (s : Session) (flash memory : List ℕ) (sounds : sound
   known : s .version ≤ 2
   known = measured (board .lpc) (length flash) (length memory) s sounds .fits .known
 
+  room : toBytes (s .size) ≤ length memory
+  room = part-within (length flash) (length memory) s e .1
+
   -- ---- the flush never stopped
+  k : Kept s (resumed s .session)
+  k = resumed-kept s flash memory e w s (record { version = refl; previous = refl; window = refl; first = refl; size = refl; marks = refl })
+
+  awake : resumed s .session .suspended ≡ false
+  awake = resume-said s flash memory e w s .1
+
+  sound₁ : sound (length flash) (length memory) (resumed s .session) ≡ true
+  sound₁ =
+      sound-as (length flash) (length memory) s (resumed s .session) e (subst (λ (v : ℕ). v ≤ 2) (sym (k .version)) known)
+      (k .window) (k .first) (k .size) (k .marks)
+
+  unstopped-steps : StepsSucceed (unstopped s flash memory)
+  unstopped-steps = steps-said (resumed s .session) flash memory sound₁ (k .window ∙ w) awake
+
+  adds : (way : Way) → AddsNone way s → AddsNone way (resumed s .session)
+  adds bySteps n = tt
+  adds (byFlush registers) n = ap (λ (version : ℕ). ltb version 2 && not (eqb (number 4 2 registers) 0)) (k .version) ∙ n
+
   never-stopped : (way : Way) → Succeeds board way (unstopped s flash memory) → AddsNone way s
       → unstoppedFlash board way s flash memory ≡ performIn s memory (windowActions s) flash
   never-stopped way ok none =
-      way-flash board way (unstopped s flash memory) ok (adds way none)
-      (sound-as (length flash) (length memory) s (resumedIf s) e (subst (λ (v : ℕ). v ≤ 2) (sym (k .version)) known) (k .window) (k .first) (k .size) (k .marks))
-      (k .window ∙ w) awake
-      ∙ same-window (resumedIf s) s (k .first) (k .size) (k .marks) memory flash
-    where
-      by : Bool → Session
-      by b = cond b (resumed s .session) s
-
-      k : Kept s (resumedIf s)
-      k =
-          let same : Kept s s = record { version = refl; previous = refl; window = refl; first = refl; size = refl; marks = refl } in
-          ⊎-elim
-          (λ (u : s .suspended ≡ true). subst (Kept s) (sym (ap by u)) (resumed-kept s flash memory e w s same))
-          (λ (u : s .suspended ≡ false). subst (Kept s) (sym (ap by u)) same)
-          (decided (s .suspended))
-
-      awake : resumedIf s .suspended ≡ false
-      awake =
-          ⊎-elim
-          (λ (u : s .suspended ≡ true). ap (λ (b : Bool). by b .suspended) u ∙ resume-said s flash memory e w s .1)
-          (λ (u : s .suspended ≡ false). ap (λ (b : Bool). by b .suspended) u ∙ u)
-          (decided (s .suspended))
-
-      adds : (way : Way) → AddsNone way s → AddsNone way (resumedIf s)
-      adds bySteps n = tt
-      adds (byFlush registers) n = ap (λ (version : ℕ). ltb version 2 && not (eqb (number 4 2 registers) 0)) (k .version) ∙ n
+      way-flash board way (unstopped s flash memory) ok (adds way none) sound₁ (k .window ∙ w) awake
+      ∙ same-window (resumed s .session) s (k .first) (k .size) (k .marks) memory flash
 
   module _ (events : List Event) where
     r : Running s flash memory e w (cut s flash memory events)
@@ -104,16 +101,17 @@ module _ (board : Board) (s : Session) (flash memory : List ℕ) (sounds : sound
           memory-same = r .memory-is;
         }
 
-    -- ---- the second run
-    second-ends : (q : SecondRun board s (cut s flash memory events .flash) memory)
-        → secondFlash board s (cut s flash memory events .flash) memory q ≡ performIn s memory (windowActions s) flash
-    second-ends q =
-        way-flash board (q .way) m₃ (q .way-succeeds) (adds-none (q .way) (m₃ .session) (o₃ .agreed)) sound₃ (o₃ .window) (o₃ .awake)
-        ∙ same-window (m₃ .session) s (o₃ .first-is) (o₃ .size-is) (q .same-marks) (m₃ .memory) (m₃ .flash)
-        ∙ ap (performIn s (m₃ .memory) (windowActions s)) (o₃ .flash-is ∙ ap (λ (m : Machine). m .flash) left₁ ∙ r .flash-is)
-        ∙ after-cut s flash (part-within (length flash) (length memory) s e .0) memory (part-within (length flash) (length memory) s e .1)
-        (marks-sound s flash memory e w) (m₃ .memory) (subst (λ (n : ℕ). toBytes (s .size) ≤ n) (sym long₃) (part-within (length flash) (length memory) s e .1))
-        (q .same-bytes) (cut s flash memory events .count)
+    abbrev Again : Type 0
+    Again = SecondRun board s (cut s flash memory events .flash) memory
+
+    abbrev end : Again → Machine
+    end q = secondEnd board s (cut s flash memory events .flash) memory q
+
+    -- ---- the second run: its window is open again
+    second-open : (q : Again) → Open (s .first) (s .size) (length memory) (cut s flash memory events .flash) (end q)
+    second-open q =
+        subst (λ (n : ℕ). Open (s .first) (s .size) n f₁ (end q)) long₁
+        (subst (λ (f : List ℕ). Open (s .first) (s .size) (length (m₁ .memory)) f (end q)) (ap (λ (m : Machine). m .flash) left₁) o₃)
       where
         f₁ : List ℕ
         f₁ = cut s flash memory events .flash
@@ -133,38 +131,48 @@ module _ (board : Board) (s : Session) (flash memory : List ℕ) (sounds : sound
             (ap (λ (m : Machine). m .session .marks) left₁) (s .first) (s .size) (q .agreed) (ap (λ (m : Machine). m .session .suspended) left₁)
             (q .same-first) (q .same-size)
 
-        m₃ : Machine
-        m₃ = marking board (q .info) (q .create) (q .calls) f₁ (q .other)
-
-        o₃ : Open (s .first) (s .size) (length (m₁ .memory)) (m₁ .flash) m₃
+        o₃ : Open (s .first) (s .size) (length (m₁ .memory)) (m₁ .flash) (end q)
         o₃ =
-            calls-open board (s .first) (s .size) (length (m₁ .memory)) (m₁ .flash)
-            (subst (λ (n : ℕ). toBytes (s .size) ≤ n) (sym long₁) (part-within (length flash) (length memory) s e .1))
+            calls-open board (s .first) (s .size) (length (m₁ .memory)) (m₁ .flash) (subst (λ (n : ℕ). toBytes (s .size) ≤ n) (sym long₁) room)
             (q .calls) (q .allowed) (opening board (q .info) (q .create) f₁ (q .other)) o₂
 
-        long₃ : length (m₃ .memory) ≡ length memory
-        long₃ = o₃ .memory-long ∙ long₁
+    second-sound : (q : Again) → sound (length (end q .flash)) (length (end q .memory)) (end q .session) ≡ true
+    second-sound q =
+        let o = second-open q in
+        ap (λ (n : ℕ). sound n (length (end q .memory)) (end q .session)) (ap length (o .flash-is) ∙ length-at s flash memory e w (cut s flash memory events) r)
+        ∙ ap (λ (n : ℕ). sound (length flash) n (end q .session)) (o .memory-long)
+        ∙ sound-as (length flash) (length memory) s (end q .session) e (subst (λ (v : ℕ). v ≤ 2) (sym (o .agreed)) (omega arith))
+        (o .window ∙ sym w) (o .first-is) (o .size-is) (q .same-marks)
 
-        wide₃ : length (m₃ .flash) ≡ length flash
-        wide₃ = ap length (o₃ .flash-is) ∙ ap (λ (m : Machine). length (m .flash)) left₁ ∙ length-at s flash memory e w (cut s flash memory events) r
+    second-steps : (q : Again) → StepsSucceed (end q)
+    second-steps q =
+        let o = second-open q in
+        steps-said (end q .session) (end q .flash) (end q .memory) (second-sound q) (o .window) (o .awake)
 
-        sound₃ : sound (length (m₃ .flash)) (length (m₃ .memory)) (m₃ .session) ≡ true
-        sound₃ =
-            ap (λ (n : ℕ). sound n (length (m₃ .memory)) (m₃ .session)) wide₃
-            ∙ ap (λ (n : ℕ). sound (length flash) n (m₃ .session)) long₃
-            ∙ sound-as (length flash) (length memory) s (m₃ .session) e (subst (λ (v : ℕ). v ≤ 2) (sym (o₃ .agreed)) (omega arith))
-            (o₃ .window ∙ sym w) (o₃ .first-is) (o₃ .size-is) (q .same-marks)
+    second-ends : (q : Again) → secondFlash board s (cut s flash memory events .flash) memory q ≡ performIn s memory (windowActions s) flash
+    second-ends q =
+        let o = second-open q in
+        way-flash board (q .way) (end q) (q .way-succeeds) (adds-none (q .way) (end q .session) (o .agreed)) (second-sound q) (o .window) (o .awake)
+        ∙ same-window (end q .session) s (o .first-is) (o .size-is) (q .same-marks) (end q .memory) (end q .flash)
+        ∙ ap (performIn s (end q .memory) (windowActions s)) (o .flash-is ∙ r .flash-is)
+        ∙ after-cut s flash (part-within (length flash) (length memory) s e .0) memory room (marks-sound s flash memory e w) (end q .memory)
+        (subst (λ (n : ℕ). toBytes (s .size) ≤ n) (sym (o .memory-long)) room) (q .same-bytes) (cut s flash memory events .count)
 
--- Demand 3: "for every two such lists, the chip equals that of the flush never stopped"
+-- Demand 3: "for every two such lists, the chip equals that of the flush never stopped"; where a run flushes by steps, each of them succeeds
 pub demand-3 : (board : Board) (s : Session) (flash memory : List ℕ)
     → soundAt (board .lpc) (length flash) (length memory) s ≡ true → s .window ≡ Write
     → (events : List Event)
     → AtCut s flash memory events
     × ((second : SecondRun board s (cut s flash memory events .flash) memory) (way : Way)
     → Succeeds board way (unstopped s flash memory) → AddsNone way s
-    → secondFlash board s (cut s flash memory events .flash) memory second ≡ unstoppedFlash board way s flash memory)
+    → (secondFlash board s (cut s flash memory events .flash) memory second ≡ unstoppedFlash board way s flash memory)
+    × StepsSucceed (secondEnd board s (cut s flash memory events .flash) memory second)
+    × StepsSucceed (unstopped s flash memory))
 demand-3 board s flash memory sounds w events = (
   at-cut board s flash memory sounds w events,
-  λ second way ok none.
-      second-ends board s flash memory sounds w events second ∙ sym (never-stopped board s flash memory sounds w way ok none),
+  λ second way ok none. (
+    second-ends board s flash memory sounds w events second ∙ sym (never-stopped board s flash memory sounds w way ok none),
+    second-steps board s flash memory sounds w events second,
+    unstopped-steps board s flash memory sounds w,
+  ),
 )

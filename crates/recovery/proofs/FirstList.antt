@@ -342,3 +342,17 @@ module _ (s : Session) (flash memory : List ℕ) (e : sound (length flash) (leng
       runs (replicate N step) (start s flash memory) begins .flash-is
       ∙ ap (λ (j : ℕ). performIn s memory (take j (windowActions s)) flash) count
       ∙ ap (λ (xs : List Action). performIn s memory xs flash) (take-all N (windowActions s) (omega arith))
+
+  -- each of which answers 1 with yes
+  steps-expected : (n j : ℕ) → j + n ≤ N → expected N (replicate n step) false j ≡ replicate n (stepped 1 true)
+  steps-expected zero j h = refl
+  steps-expected (suc n) j h =
+      let t : ltb j N ≡ true = lt-ltb j N (omega arith) in
+      ap (λ (b : Bool). stepped 1 b ∷ expected N (replicate n step) false (cond b (j + 1) j)) t
+      ∙ ap (λ (xs : List Said). stepped 1 true ∷ xs) (steps-expected n (j + 1) (omega arith))
+
+  pub steps-said : s .suspended ≡ false → answers N (replicate N step) (start s flash memory) ≡ replicate N (stepped 1 true)
+  steps-said u =
+      says (replicate N step) (start s flash memory) begins
+      ∙ ap (λ (b : Bool). expected N (replicate N step) b 0) u
+      ∙ steps-expected N 0 (omega arith)

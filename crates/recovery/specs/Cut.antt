@@ -91,10 +91,11 @@ start s flash memory = record { session = s; flash = flash; memory = memory; cou
 abbrev pub cut : Session → List ℕ → List ℕ → List Event → State
 cut s flash memory events = afterAll (actionsOf s) events (start s flash memory)
 
--- the byte of the flash at x lies in a marked block
+-- a mark that asks for actions
 abbrev pub isMarked : ℕ → Bool
 isMarked mark = eqb mark dirty || eqb mark erasedMark
 
+-- the byte of the flash at x lies in a marked block
 abbrev pub inMarked : Session → ℕ → Bool
 inMarked s x =
     leb (toBytes (s .first)) x

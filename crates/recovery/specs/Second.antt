@@ -1,6 +1,6 @@
 -- The second run of demand 3, and the flush never stopped: document 01, the last paragraph of "Chip actions".
 use Prim.Native.Nat.{ℕ, _+_, _/_, _≤_}
-use mathlib.Core.Bool.{Bool, false, cond}
+use mathlib.Core.Bool.{Bool, true, false}
 use mathlib.Core.List.{List, [], _∷_}
 use mathlib.Core.Logic.{_⊎_}
 use mathlib.Core.Path.{_≡_}
@@ -15,7 +15,7 @@ use Rattle.mailbox.specs.declared.Board.{Board}
 use Rattle.mailbox.specs.Registers.{commandOf}
 use Rattle.mailbox.specs.Refusals.{flushMarks}
 use Rattle.mailbox.specs.Mediator.{mediate}
-use Rattle.recovery.specs.Cut.{step, afterAll, actionsOf, start}
+use Rattle.recovery.specs.Cut.{Said, stepped, step, afterAll, answers, actionsOf, start}
 
 -- the session and both buffers between two calls
 pub record Machine : Type 0 where
@@ -58,7 +58,7 @@ abbrev pub calledAll : Board → List Call → Machine → Machine
 calledAll board [] m = m
 calledAll board (call ∷ calls) m = calledAll board calls (called board call m)
 
--- "flushes by FLUSH or by N steps, their count from 0"
+-- "flushes by FLUSH or by N steps, their count from 0"; N is that of the session, which has the first list's marks
 pub data Way : Type 0 where
   bySteps : Way
   byFlush : List ℕ → Way
@@ -66,6 +66,12 @@ pub data Way : Type 0 where
 abbrev pub Succeeds : Board → Way → Machine → Type 0
 Succeeds board bySteps m = Unit
 Succeeds board (byFlush registers) m = (commandOf registers ≡ 8) × (response board registers m ≡ 1)
+
+-- every one of the N steps answers 1 with yes
+abbrev pub StepsSucceed : Machine → Type 0
+StepsSucceed m =
+    answers (actionsOf (m .session)) (replicate (actionsOf (m .session)) step) (start (m .session) (m .flash) (m .memory))
+    ≡ replicate (actionsOf (m .session)) (stepped 1 true)
 
 -- the flash after it
 abbrev pub flashAfter : Board → Way → Machine → List ℕ
@@ -89,7 +95,7 @@ opening board info create flash memory = sent board create (agreeing board info 
 abbrev pub marking : Board → List ℕ → List ℕ → List Call → List ℕ → List ℕ → Machine
 marking board info create calls flash memory = calledAll board calls (opening board info create flash memory)
 
--- a second run after a window s with this window memory, on this flash; "outside the list all succeed"
+-- a second run for the window of session s with this window memory, on this flash; "outside the list all succeed"
 pub record SecondRun (board : Board) (s : Session) (flash memory : List ℕ) : Type 0 where
   -- any window memory of the same size
   pub other : List ℕ
@@ -115,19 +121,19 @@ pub record SecondRun (board : Board) (s : Session) (flash memory : List ℕ) : T
   pub way : Way
   pub way-succeeds : Succeeds board way (marking board info create calls flash other)
 
--- the chip after the second run
+-- before the flush of a second run, and the chip after it
+abbrev pub secondEnd : (board : Board) (s : Session) (flash memory : List ℕ) → SecondRun board s flash memory → Machine
+secondEnd board s flash memory r = marking board (r .info) (r .create) (r .calls) flash (r .other)
+
 abbrev pub secondFlash : (board : Board) (s : Session) (flash memory : List ℕ) → SecondRun board s flash memory → List ℕ
-secondFlash board s flash memory r =
-    flashAfter board (r .way) (marking board (r .info) (r .create) (r .calls) flash (r .other))
+secondFlash board s flash memory r = flashAfter board (r .way) (secondEnd board s flash memory r)
 
--- "The flush never stopped starts as the first list does, resumes without changed flash if suspended there"
-abbrev pub resumedIf : Session → Session
-resumedIf s = cond (s .suspended) (resumed s .session) s
-
+-- "The flush never stopped starts as the first list does, resumes without changed flash if suspended there": a resume leaves any other session
+-- as it is
 abbrev pub unstopped : Session → List ℕ → List ℕ → Machine
-unstopped s flash memory = record { session = resumedIf s; flash = flash; memory = memory }
+unstopped s flash memory = record { session = resumed s .session; flash = flash; memory = memory }
 
--- "a successful FLUSH that adds no mark"
+-- "a successful FLUSH that adds no mark": at version 1, L = 0
 abbrev pub AddsNone : Way → Session → Type 0
 AddsNone bySteps s = Unit
 AddsNone (byFlush registers) s = flushMarks s registers ≡ false

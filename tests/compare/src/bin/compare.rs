@@ -1,0 +1,301 @@
+//! Runs the proved library and the second implementation side by side on random and edge inputs, and stops at the first difference.
+//!
+//! compare [SEED [ROUNDS]]: one seed, or many; the line that a difference prints runs it again.
+
+use compare::{record_of, session_of, Random, Record};
+use second::{Kind, Session};
+use std::io::Write;
+use std::process::{Command, Stdio};
+
+const BLOCK: usize = 4096;
+
+/// One machine for each side: the same session, flash and window memory.
+struct Pair {
+    record: Record,
+    session: Session,
+    flash: [Vec<u8>; 2],
+    memory: [Vec<u8>; 2],
+    lpc: u16,
+    timeout: u16,
+}
+
+impl Pair {
+    fn new(r: &mut Random) -> Pair {
+        let (s, c) = (1 + r.below(8) as usize, 1 + r.below(4) as usize);
+        let mut flash = vec![0; length(r, s)];
+        let mut memory = vec![0; length(r, c)];
+        r.fill(&mut flash);
+        r.fill(&mut memory);
+        let session = random_session(r, s as u64, c as u64);
+        let lpc = if r.once_in(12) { (65536 - c as u64 - 1 + r.below(3)) as u16 } else { r.below(100) as u16 };
+        Pair {
+            record: record_of(&session),
+            session,
+            flash: [flash.clone(), flash],
+            memory: [memory.clone(), memory],
+            lpc,
+            timeout: r.next() as u16,
+        }
+    }
+
+    fn command(&mut self, registers: [u8; 16]) -> Result<(), String> {
+        let mut ours = registers;
+        let actions = compare::command(&mut self.record, &mut ours, self.lpc, self.timeout, &mut self.flash[0], &mut self.memory[0]);
+        let theirs = second::command(&mut self.session, registers, self.lpc, self.timeout, &mut self.flash[1], &mut self.memory[1]);
+        self.same("command", (ours, actions), theirs)
+    }
+
+    fn step(&mut self, done: u64) -> Result<(), String> {
+        let ours = compare::step(&self.record, &mut self.flash[0], &mut self.memory[0], done);
+        let theirs = second::step(&self.session, &mut self.flash[1], &self.memory[1], done);
+        self.same("step", ours, theirs)
+    }
+
+    fn access(&mut self, which: u64) -> Result<(), String> {
+        let (ours, theirs) = match which {
+            0 => (compare::suspend(&mut self.record), second::suspend(&mut self.session)),
+            1 => (compare::resume(&mut self.record), second::resume(&mut self.session)),
+            _ => (compare::resume_changed(&mut self.record), second::resume_changed(&mut self.session)),
+        };
+        self.same("access", ours, theirs)
+    }
+
+    fn host_write(&mut self, r: &mut Random) {
+        let most = self.memory[0].len();
+        if most == 0 {
+            return;
+        }
+        let at = r.below(most as u64) as usize;
+        let end = (at + 1 + r.below(5000) as usize).min(most);
+        r.fill(&mut self.memory[0][at..end]);
+        let copy = self.memory[0][at..end].to_vec();
+        self.memory[1][at..end].copy_from_slice(&copy);
+    }
+
+    fn same<T: PartialEq + std::fmt::Debug>(&self, what: &str, ours: T, theirs: T) -> Result<(), String> {
+        if ours != theirs {
+            return Err(format!("{what}: answered {ours:?}, the second implementation {theirs:?}"));
+        }
+        if session_of(&self.record) != self.session {
+            return Err(format!("{what}: session {:?}, the second implementation {:?}", session_of(&self.record), self.session));
+        }
+        if self.flash[0] != self.flash[1] {
+            return Err(format!("{what}: flash differs"));
+        }
+        if self.memory[0] != self.memory[1] {
+            return Err(format!("{what}: window memory differs"));
+        }
+        Ok(())
+    }
+}
+
+/// Mostly whole blocks, now and then any length.
+fn length(r: &mut Random, blocks: usize) -> usize {
+    match r.below(16) {
+        0 => r.below(3 * BLOCK as u64) as usize,
+        1 => blocks * BLOCK + 1,
+        2 => blocks * BLOCK - 1,
+        _ => blocks * BLOCK,
+    }
+}
+
+fn random_session(r: &mut Random, s: u64, c: u64) -> Session {
+    let mut session = Session::fresh();
+    session.version = r.below(3) as u8;
+    session.events = r.next() as u8;
+    session.suspended = r.once_in(6);
+    if !r.once_in(4) {
+        session.previous = Some(r.below(4) as u8);
+    }
+    session.kind = [Kind::Closed, Kind::Read, Kind::Write, Kind::Write][r.below(4) as usize];
+    if session.kind != Kind::Closed {
+        session.first = r.below(s) as u16;
+        session.size = 1 + r.below(c.min(s - session.first as u64)) as u16;
+    }
+    if session.kind == Kind::Write {
+        for mark in &mut session.marks[..session.size as usize] {
+            *mark = r.below(3) as u8;
+        }
+    }
+    if r.once_in(8) {
+        spoil(r, &mut session);
+    }
+    session
+}
+
+/// A session that no command would leave.
+fn spoil(r: &mut Random, session: &mut Session) {
+    match r.below(6) {
+        0 => session.version = r.next() as u8,
+        1 => session.first = r.next() as u16,
+        2 => session.size = r.next() as u16,
+        3 => session.marks[r.below(64) as usize] = r.next() as u8,
+        4 => session.kind = Kind::Closed,
+        _ => session.marks = [1; 64],
+    }
+}
+
+fn registers(r: &mut Random) -> [u8; 16] {
+    let mut registers = [0; 16];
+    r.fill(&mut registers);
+    registers[0] = if r.once_in(20) { r.next() as u8 } else { r.below(12) as u8 };
+    registers[1] = r.below(5) as u8;
+    for i in (2..13).step_by(2) {
+        match r.below(6) {
+            0 => {}
+            1 => registers[i..i + 2].copy_from_slice(&[255, 255]),
+            _ => registers[i..i + 2].copy_from_slice(&[r.below(9) as u8, 0]),
+        }
+    }
+    if r.once_in(3) {
+        // a version 1 length near whole blocks, within arguments 2 to 5
+        let length = (r.below(4) as u32) * 4096 + r.below(3) as u32;
+        registers[4..8].copy_from_slice(&length.to_le_bytes());
+    }
+    registers
+}
+
+/// A list of calls, the same on both sides.
+fn calls(r: &mut Random) -> Result<(), String> {
+    let mut pair = Pair::new(r);
+    let mut done = 0;
+    for _ in 0..40 {
+        match r.below(12) {
+            0 => pair.access(r.below(3))?,
+            1 => pair.host_write(r),
+            2 | 3 => {
+                pair.step(done)?;
+                done = if r.once_in(10) { r.next() } else { done + 1 };
+            }
+            _ => pair.command(registers(r))?,
+        }
+    }
+    Ok(())
+}
+
+/// Demand 3 on the proved library: cut at any action, open again, mark, write and flush.
+fn cut(r: &mut Random) -> Result<(), String> {
+    let (s, c) = (2 + r.below(6) as usize, 1 + r.below(4) as usize);
+    let mut flash = vec![0; s * BLOCK];
+    let mut memory = vec![0; c * BLOCK];
+    r.fill(&mut flash);
+    r.fill(&mut memory);
+    let mut record = compare::fresh();
+    record.version = r.below(3) as u8;
+    record.window = 2;
+    record.first = r.below(s as u64) as u16;
+    record.size = 1 + r.below((c.min(s - record.first as usize)) as u64) as u16;
+    let size = record.size as usize;
+    for mark in &mut record.marks[..size] {
+        *mark = r.below(3) as u8;
+    }
+    let n = second::flush_actions(&session_of(&record)) as u64;
+    let mut whole = flash.clone();
+    for j in 0..n {
+        compare::step(&record, &mut whole, &mut memory, j);
+    }
+    let cut = r.below(n + 1);
+    for j in 0..cut {
+        compare::step(&record, &mut flash, &mut memory, j);
+    }
+    let mut other = vec![0; c * BLOCK];
+    r.fill(&mut other);
+    let mut again = compare::fresh();
+    let mut send = |code: u8, sequence: u8, arguments: [u16; 2], flash: &mut Vec<u8>, other: &mut Vec<u8>| {
+        let mut registers = [0; 16];
+        registers[0] = code;
+        registers[1] = sequence;
+        registers[2..4].copy_from_slice(&arguments[0].to_le_bytes());
+        registers[4..6].copy_from_slice(&arguments[1].to_le_bytes());
+        compare::command(&mut again, &mut registers, 16, 8, flash, other);
+        registers[13]
+    };
+    send(2, 1, [2, 0], &mut flash, &mut other);
+    send(6, 2, [record.first, record.size], &mut flash, &mut other);
+    for block in 0..size {
+        let code = [0, 7, 10][record.marks[block] as usize];
+        if code != 0 {
+            send(code, 3 + block as u8, [block as u16, 1], &mut flash, &mut other);
+        }
+        if record.marks[block] == 1 {
+            other[block * BLOCK..(block + 1) * BLOCK].copy_from_slice(&memory[block * BLOCK..(block + 1) * BLOCK]);
+        }
+    }
+    if send(8, 200, [0, 0], &mut flash, &mut other) != 1 {
+        return Err("cut: the second flush was refused".into());
+    }
+    if flash != whole {
+        return Err(format!("cut: after {cut} of {n} actions the second run ends otherwise"));
+    }
+    Ok(())
+}
+
+/// The bench program against the second implementation's, on records of all kinds and on damaged ones.
+fn bench(r: &mut Random, program: &str) -> Result<(), String> {
+    let mut input = Vec::new();
+    for _ in 0..r.below(30) {
+        let kind = if r.once_in(15) { r.below(9) } else { [0, 0, 0, 1, 2, 3, 4][r.below(7) as usize] };
+        put(&mut input, kind);
+        match kind {
+            0 => {
+                let count = if r.once_in(20) { r.below(16) } else { 6 + r.below(8) };
+                put(&mut input, count);
+                put(&mut input, r.below(12));
+                for i in 1..count {
+                    put(&mut input, if i == 1 { r.below(250) } else if r.once_in(8) { r.below(300) } else { r.below(4) });
+                }
+            }
+            1 => {
+                put(&mut input, r.below(9000));
+                put(&mut input, if r.once_in(9) { r.next() >> 32 } else { r.below(4000) });
+                put(&mut input, r.below(if r.once_in(9) { 300 } else { 256 }));
+            }
+            _ => {}
+        }
+    }
+    if r.once_in(3) && !input.is_empty() {
+        let at = r.below(input.len() as u64) as usize;
+        input[at] = r.next() as u8;
+    }
+    if r.once_in(40) {
+        input.resize(16383 + r.below(3) as usize, 2);
+    }
+    let mut child = Command::new(program).stdin(Stdio::piped()).stdout(Stdio::piped()).spawn().map_err(|e| format!("{program}: {e}"))?;
+    child.stdin.take().unwrap().write_all(&input).map_err(|e| e.to_string())?;
+    let ours = child.wait_with_output().map_err(|e| e.to_string())?.stdout;
+    let theirs = second::bench(&input);
+    if ours != theirs {
+        return Err(format!("bench on {input:02x?}: {:?}, the second implementation {:?}", String::from_utf8_lossy(&ours), String::from_utf8_lossy(&theirs)));
+    }
+    Ok(())
+}
+
+/// A number in seven-bit groups.
+fn put(out: &mut Vec<u8>, mut n: u64) {
+    while n >= 128 {
+        out.push((n % 128) as u8 + 128);
+        n /= 128;
+    }
+    out.push(n as u8);
+}
+
+fn main() {
+    let mut arguments = std::env::args().skip(1);
+    let first: u64 = arguments.next().and_then(|a| a.parse().ok()).unwrap_or(1);
+    let rounds: u64 = arguments.next().and_then(|a| a.parse().ok()).unwrap_or(1);
+    let program = std::env::var("BENCH").unwrap_or_default();
+    println!("compare: seeds {first} to {}", first + rounds - 1);
+    for seed in first..first + rounds {
+        let mut r = Random(seed.wrapping_mul(0x1234_5678_9abc_def1));
+        let mut result = calls(&mut r).and_then(|()| cut(&mut r));
+        if result.is_ok() && !program.is_empty() && seed % 8 == 0 {
+            result = bench(&mut r, &program);
+        }
+        if let Err(difference) = result {
+            println!("seed {seed}: {difference}");
+            println!("again: tests/compare.sh {seed} 1");
+            std::process::exit(1);
+        }
+    }
+    println!("compare: {rounds} rounds, no difference");
+}

@@ -1,0 +1,1840 @@
+//! An independent second implementation of the controller's side of hiomap
+//! versions 1 and 2, written from document 01 and QUESTIONS.md alone.
+//! It is plain on purpose: it is there to be compared with.
+
+/// Bytes in a block, which is also the erase granule.
+pub const BLOCK: usize = 4096;
+/// The block size as a power of two.
+pub const SHIFT: u8 = 12;
+/// Bytes in a page.
+pub const PAGE: usize = 256;
+/// Pages in a block.
+pub const PAGES: usize = BLOCK / PAGE;
+/// Most blocks of window memory, and the number of marks.
+pub const MARKS: usize = 64;
+
+pub const CLEAN: u8 = 0;
+pub const DIRTY: u8 = 1;
+pub const ERASED: u8 = 2;
+
+pub const EVENT_PROTOCOL_RESET: u8 = 0x01;
+pub const EVENT_WINDOW_RESET: u8 = 0x02;
+pub const EVENT_FLASH_LOST: u8 = 0x40;
+pub const EVENT_DAEMON_READY: u8 = 0x80;
+
+pub const SUCCESS: u8 = 1;
+pub const PARAM_ERROR: u8 = 2;
+pub const SYSTEM_ERROR: u8 = 4;
+pub const TIMEOUT: u8 = 5;
+pub const BUSY: u8 = 6;
+pub const WINDOW_ERROR: u8 = 7;
+pub const SEQ_ERROR: u8 = 8;
+
+pub const RESET: u8 = 1;
+pub const GET_INFO: u8 = 2;
+pub const GET_FLASH_INFO: u8 = 3;
+pub const CREATE_READ: u8 = 4;
+pub const CLOSE: u8 = 5;
+pub const CREATE_WRITE: u8 = 6;
+pub const MARK_DIRTY: u8 = 7;
+pub const FLUSH: u8 = 8;
+pub const ACK: u8 = 9;
+pub const ERASE: u8 = 10;
+
+// ---------------------------------------------------------------- session
+
+#[derive(Clone, Copy, Debug, PartialEq, Eq)]
+pub enum Kind {
+    Closed,
+    Read,
+    Write,
+}
+
+#[derive(Clone, Debug, PartialEq, Eq)]
+pub struct Session {
+    pub version: u8,
+    pub previous: Option<u8>,
+    pub events: u8,
+    pub suspended: bool,
+    pub kind: Kind,
+    pub first: u16,
+    pub size: u16,
+    pub marks: [u8; 64],
+}
+
+impl Session {
+    pub fn fresh() -> Session {
+        Session {
+            version: 0,
+            previous: None,
+            events: EVENT_DAEMON_READY | EVENT_PROTOCOL_RESET,
+            suspended: false,
+            kind: Kind::Closed,
+            first: 0,
+            size: 0,
+            marks: [CLEAN; MARKS],
+        }
+    }
+
+    /// No window, first block 0, size 0, all marks 0, whatever was there.
+    fn drop_window(&mut self) {
+        self.kind = Kind::Closed;
+        self.first = 0;
+        self.size = 0;
+        self.marks = [CLEAN; MARKS];
+    }
+}
+
+/// The number of blocks in a buffer, if it is whole blocks, 1 to `most`.
+fn whole_blocks(len: usize, most: usize) -> Option<usize> {
+    let blocks = len / BLOCK;
+    let good = len % BLOCK == 0 && blocks >= 1 && blocks <= most;
+    good.then_some(blocks)
+}
+
+fn window_sound(s: &Session, flash_blocks: usize, window_blocks: usize) -> bool {
+    let (first, size) = (usize::from(s.first), usize::from(s.size));
+    match s.kind {
+        Kind::Closed => first == 0 && size == 0,
+        Kind::Read | Kind::Write => {
+            size >= 1 && size <= window_blocks && first + size <= flash_blocks
+        }
+    }
+}
+
+fn marks_sound(s: &Session) -> bool {
+    s.marks.iter().enumerate().all(|(block, &mark)| match mark {
+        CLEAN => true,
+        DIRTY | ERASED => s.kind == Kind::Write && block < usize::from(s.size),
+        _ => false,
+    })
+}
+
+/// The sizes keep 01's numbers and the session is sound for them.
+pub fn sound(s: &Session, flash_len: usize, window_len: usize) -> bool {
+    match (whole_blocks(flash_len, 65_535), whole_blocks(window_len, MARKS)) {
+        (Some(flash_blocks), Some(window_blocks)) => {
+            s.version <= 2 && window_sound(s, flash_blocks, window_blocks) && marks_sound(s)
+        }
+        _ => false,
+    }
+}
+
+/// As `sound`, and B + C <= 65,536.
+pub fn sound_with_lpc(s: &Session, flash_len: usize, window_len: usize, b: u16) -> bool {
+    sound(s, flash_len, window_len) && usize::from(b) + window_len / BLOCK <= 65_536
+}
+
+pub fn suspend(s: &mut Session) -> bool {
+    if s.suspended {
+        return false;
+    }
+    s.suspended = true;
+    s.events |= EVENT_FLASH_LOST;
+    true
+}
+
+pub fn resume(s: &mut Session) -> bool {
+    if !s.suspended {
+        return false;
+    }
+    s.suspended = false;
+    s.events &= !EVENT_FLASH_LOST;
+    true
+}
+
+/// Resume with changed flash.
+pub fn resume_changed(s: &mut Session) -> bool {
+    if !resume(s) {
+        return false;
+    }
+    s.drop_window();
+    s.events |= EVENT_WINDOW_RESET;
+    true
+}
+
+// ----------------------------------------------------------- chip actions
+
+/// One chip action on a window block.
+#[derive(Clone, Copy, Debug, PartialEq, Eq)]
+enum Action {
+    Erase(usize),
+    Page(usize, usize),
+}
+
+/// The marks of the window's blocks; none without a write window.
+fn window_marks(s: &Session) -> &[u8] {
+    let size = usize::from(s.size).min(MARKS);
+    match s.kind {
+        Kind::Write => &s.marks[..size],
+        Kind::Closed | Kind::Read => &[],
+    }
+}
+
+/// All actions of the session's flush, in their order.
+fn actions(s: &Session) -> Vec<Action> {
+    let mut list = Vec::new();
+    for (block, &mark) in window_marks(s).iter().enumerate() {
+        if mark == DIRTY || mark == ERASED {
+            list.push(Action::Erase(block));
+        }
+        if mark == DIRTY {
+            list.extend((0..PAGES).map(|page| Action::Page(block, page)));
+        }
+    }
+    list
+}
+
+/// 17 for each dirty and 1 for each erased block of the window.
+pub fn flush_actions(s: &Session) -> u32 {
+    let cost = |mark: &u8| match *mark {
+        DIRTY => 17,
+        ERASED => 1,
+        _ => 0,
+    };
+    window_marks(s).iter().map(cost).sum()
+}
+
+/// Does one action; the session is sound for these buffers.
+fn perform(action: Action, first: u16, flash: &mut [u8], window: &[u8]) {
+    let base = usize::from(first) * BLOCK;
+    match action {
+        Action::Erase(block) => {
+            let from = base + block * BLOCK;
+            erase(&mut flash[from..from + BLOCK]);
+        }
+        Action::Page(block, page) => {
+            let from = block * BLOCK + page * PAGE;
+            let new = &window[from..from + PAGE];
+            program(&mut flash[base + from..base + from + PAGE], new);
+        }
+    }
+}
+
+fn erase(block: &mut [u8]) {
+    block.fill(0xFF);
+}
+
+fn program(page: &mut [u8], new: &[u8]) {
+    for (old, new) in page.iter_mut().zip(new) {
+        *old &= *new;
+    }
+}
+
+/// The flush advanced by one action, `done` of them being done already.
+pub fn step(s: &Session, flash: &mut [u8], window: &[u8], done: u64) -> (u8, bool) {
+    if !sound(s, flash.len(), window.len()) {
+        return (SYSTEM_ERROR, false);
+    }
+    if s.suspended {
+        return (BUSY, false);
+    }
+    let list = actions(s);
+    if done >= list.len() as u64 {
+        return (SUCCESS, false);
+    }
+    perform(list[done as usize], s.first, flash, window);
+    (SUCCESS, true)
+}
+
+/// The whole flush; all marks are 0 afterwards. Answers the actions done.
+fn flush(s: &mut Session, flash: &mut [u8], window: &[u8]) -> u32 {
+    let list = actions(s);
+    for &action in &list {
+        perform(action, s.first, flash, window);
+    }
+    s.marks = [CLEAN; MARKS];
+    list.len() as u32
+}
+
+// --------------------------------------------------------------- mediator
+
+/// What a command answers, before it is put into the registers.
+struct Answer {
+    code: u8,
+    args: [u8; 11],
+    actions: u32,
+}
+
+fn refused(code: u8) -> Answer {
+    Answer { code, args: [0; 11], actions: 0 }
+}
+
+fn success(args: [u8; 11], actions: u32) -> Answer {
+    Answer { code: SUCCESS, args, actions }
+}
+
+fn done(actions: u32) -> Answer {
+    success([0; 11], actions)
+}
+
+/// Argument i as an 8-bit number.
+fn arg8(regs: &[u8; 16], i: usize) -> u8 {
+    regs[2 + i]
+}
+
+/// Arguments i and i + 1 as a 16-bit number.
+fn arg16(regs: &[u8; 16], i: usize) -> u16 {
+    u16::from_le_bytes([regs[2 + i], regs[3 + i]])
+}
+
+/// Arguments i to i + 3 as a 32-bit number.
+fn arg32(regs: &[u8; 16], i: usize) -> u32 {
+    u32::from_le_bytes([regs[2 + i], regs[3 + i], regs[4 + i], regs[5 + i]])
+}
+
+fn put16(args: &mut [u8; 11], i: usize, value: u16) {
+    args[i..i + 2].copy_from_slice(&value.to_le_bytes());
+}
+
+fn put32(args: &mut [u8; 11], i: usize, value: u32) {
+    args[i..i + 4].copy_from_slice(&value.to_le_bytes());
+}
+
+/// The registers after a command with this answer.
+fn registers(regs: &[u8; 16], answer: &Answer, events: u8) -> [u8; 16] {
+    let mut out = *regs;
+    out[2..13].copy_from_slice(&answer.args);
+    out[13] = answer.code;
+    out[15] = events;
+    out
+}
+
+/// One mailbox command: the registers afterwards and the chip actions done.
+pub fn command(
+    s: &mut Session,
+    regs: [u8; 16],
+    b: u16,
+    t: u16,
+    flash: &mut [u8],
+    window: &mut [u8],
+) -> ([u8; 16], u32) {
+    if !sound_with_lpc(s, flash.len(), window.len(), b) {
+        return (registers(&regs, &refused(SYSTEM_ERROR), s.events), 0);
+    }
+    let answer = match early_refusal(s, regs[0], regs[1]) {
+        Some(code) => refused(code),
+        None => serve(s, &regs, b, t, flash, window),
+    };
+    s.previous = Some(regs[1]);
+    (registers(&regs, &answer, s.events), answer.actions)
+}
+
+/// The refusals after SYSTEM_ERROR that do not look at arguments, in order.
+fn early_refusal(s: &Session, code: u8, sequence: u8) -> Option<u8> {
+    let old = s.version < 2;
+    if code != GET_INFO && s.previous == Some(sequence) {
+        return Some(if old { PARAM_ERROR } else { SEQ_ERROR });
+    }
+    if !known(s.version, code) {
+        return Some(PARAM_ERROR);
+    }
+    if s.suspended && code != GET_INFO && code != ACK {
+        return Some(if old { TIMEOUT } else { BUSY });
+    }
+    if needs_write_window(code) && s.kind != Kind::Write {
+        return Some(if old { PARAM_ERROR } else { WINDOW_ERROR });
+    }
+    None
+}
+
+fn known(version: u8, code: u8) -> bool {
+    match version {
+        0 => code == RESET || code == GET_INFO || code == ACK,
+        1 => (RESET..=ACK).contains(&code),
+        _ => (RESET..=ERASE).contains(&code),
+    }
+}
+
+fn needs_write_window(code: u8) -> bool {
+    code == MARK_DIRTY || code == FLUSH || code == ERASE
+}
+
+/// A command that no early check refused.
+fn serve(
+    s: &mut Session,
+    regs: &[u8; 16],
+    b: u16,
+    t: u16,
+    flash: &mut [u8],
+    window: &mut [u8],
+) -> Answer {
+    match regs[0] {
+        RESET => reset(s),
+        GET_INFO => get_info(s, regs, window.len() / BLOCK, t),
+        GET_FLASH_INFO => get_flash_info(s.version, flash.len() / BLOCK),
+        CREATE_READ => create(s, Kind::Read, regs, b, flash, window),
+        CLOSE => close(s, flash, window),
+        CREATE_WRITE => create(s, Kind::Write, regs, b, flash, window),
+        MARK_DIRTY => mark_dirty(s, regs),
+        FLUSH => flush_command(s, regs, flash, window),
+        ACK => ack(s, regs),
+        _ => erase_command(s, regs, window),
+    }
+}
+
+fn reset(s: &mut Session) -> Answer {
+    s.drop_window();
+    done(0)
+}
+
+fn get_info(s: &mut Session, regs: &[u8; 16], window_blocks: usize, t: u16) -> Answer {
+    let highest = arg8(regs, 0);
+    if highest == 0 {
+        return refused(PARAM_ERROR);
+    }
+    s.version = highest.min(2);
+    let mut args = [0; 11];
+    args[0] = s.version;
+    if s.version == 1 {
+        put16(&mut args, 1, window_blocks as u16);
+        put16(&mut args, 3, window_blocks as u16);
+    } else {
+        args[5] = SHIFT;
+        put16(&mut args, 6, t);
+    }
+    success(args, 0)
+}
+
+fn get_flash_info(version: u8, flash_blocks: usize) -> Answer {
+    let mut args = [0; 11];
+    if version == 1 {
+        put32(&mut args, 0, flash_blocks as u32 * BLOCK as u32);
+        put32(&mut args, 4, BLOCK as u32);
+    } else {
+        put16(&mut args, 0, flash_blocks as u16);
+        put16(&mut args, 2, 1);
+    }
+    success(args, 0)
+}
+
+fn create(
+    s: &mut Session,
+    kind: Kind,
+    regs: &[u8; 16],
+    b: u16,
+    flash: &mut [u8],
+    window: &mut [u8],
+) -> Answer {
+    let actions = flush(s, flash, window);
+    s.drop_window();
+    let first = usize::from(arg16(regs, 0));
+    let flash_blocks = flash.len() / BLOCK;
+    if first >= flash_blocks {
+        return Answer { actions, ..refused(PARAM_ERROR) };
+    }
+    let hint = if s.version == 2 { arg16(regs, 2) } else { 0 };
+    let size = window_size(window.len() / BLOCK, flash_blocks - first, hint);
+    copy_in(first, size, flash, window);
+    s.kind = kind;
+    s.first = first as u16;
+    s.size = size as u16;
+    success(create_args(s, b), actions)
+}
+
+/// The smallest of C, S - o and, where it is not 0, the hint.
+fn window_size(window_blocks: usize, left: usize, hint: u16) -> usize {
+    let most = window_blocks.min(left);
+    match hint {
+        0 => most,
+        n => most.min(usize::from(n)),
+    }
+}
+
+fn copy_in(first: usize, size: usize, flash: &[u8], window: &mut [u8]) {
+    let (from, len) = (first * BLOCK, size * BLOCK);
+    window[..len].copy_from_slice(&flash[from..from + len]);
+}
+
+fn create_args(s: &Session, b: u16) -> [u8; 11] {
+    let mut args = [0; 11];
+    put16(&mut args, 0, b);
+    if s.version == 2 {
+        put16(&mut args, 2, s.size);
+        put16(&mut args, 4, s.first);
+    }
+    args
+}
+
+fn close(s: &mut Session, flash: &mut [u8], window: &[u8]) -> Answer {
+    let actions = flush(s, flash, window);
+    s.drop_window();
+    done(actions)
+}
+
+/// Window blocks from `from` up to but without `to`.
+#[derive(Clone, Copy)]
+struct Range {
+    from: usize,
+    to: usize,
+}
+
+/// Version 2: w blocks into the window, k blocks; none if past its end.
+fn range_in_blocks(s: &Session, regs: &[u8; 16]) -> Option<Range> {
+    let from = usize::from(arg16(regs, 0));
+    let to = from + usize::from(arg16(regs, 2));
+    (to <= usize::from(s.size)).then_some(Range { from, to })
+}
+
+/// Version 1: flash block a and L bytes, rounded up to blocks.
+fn range_in_bytes(s: &Session, regs: &[u8; 16]) -> Option<Range> {
+    let a = u64::from(arg16(regs, 0));
+    let k = u64::from(arg32(regs, 2)).div_ceil(BLOCK as u64);
+    let first = u64::from(s.first);
+    let end = first + u64::from(s.size);
+    let inside = first <= a && a + k <= end;
+    inside.then(|| Range { from: (a - first) as usize, to: (a + k - first) as usize })
+}
+
+fn set_marks(s: &mut Session, range: Range, mark: u8) {
+    s.marks[range.from..range.to].fill(mark);
+}
+
+fn mark_dirty(s: &mut Session, regs: &[u8; 16]) -> Answer {
+    let range = match s.version {
+        1 => range_in_bytes(s, regs),
+        _ => range_in_blocks(s, regs),
+    };
+    match range {
+        None => refused(PARAM_ERROR),
+        Some(range) => {
+            set_marks(s, range, DIRTY);
+            done(0)
+        }
+    }
+}
+
+fn flush_command(s: &mut Session, regs: &[u8; 16], flash: &mut [u8], window: &[u8]) -> Answer {
+    if s.version == 1 && arg32(regs, 2) != 0 {
+        match range_in_bytes(s, regs) {
+            None => return refused(PARAM_ERROR),
+            Some(range) => set_marks(s, range, DIRTY),
+        }
+    }
+    done(flush(s, flash, window))
+}
+
+fn ack(s: &mut Session, regs: &[u8; 16]) -> Answer {
+    s.events &= !arg8(regs, 0);
+    done(0)
+}
+
+fn erase_command(s: &mut Session, regs: &[u8; 16], window: &mut [u8]) -> Answer {
+    match range_in_blocks(s, regs) {
+        None => refused(PARAM_ERROR),
+        Some(range) => {
+            set_marks(s, range, ERASED);
+            window[range.from * BLOCK..range.to * BLOCK].fill(0xFF);
+            done(0)
+        }
+    }
+}
+
+// ------------------------------------------------------------------ bench
+
+const BENCH_INPUT: usize = 16_384;
+const BENCH_FLASH_BLOCKS: usize = 4;
+const BENCH_WINDOW_BLOCKS: usize = 2;
+const BENCH_B: u16 = 16;
+const BENCH_T: u16 = 8;
+
+/// Reads the row of numbers.
+struct Numbers<'a> {
+    input: &'a [u8],
+    at: usize,
+}
+
+impl Numbers<'_> {
+    fn byte(&mut self) -> Option<u8> {
+        let byte = *self.input.get(self.at)?;
+        self.at += 1;
+        Some(byte)
+    }
+
+    /// A number in its shortest form, below 2^32 and at most `most`.
+    fn up_to(&mut self, most: u32) -> Option<u32> {
+        let mut value = 0u64;
+        for group in 0..5 {
+            let byte = self.byte()?;
+            value |= u64::from(byte & 0x7F) << (7 * group);
+            if byte < 0x80 {
+                let shortest = group == 0 || byte != 0;
+                let small = value <= u64::from(most);
+                return (shortest && small).then_some(value as u32);
+            }
+        }
+        None
+    }
+
+    fn any(&mut self) -> Option<u32> {
+        self.up_to(u32::MAX)
+    }
+
+    fn small(&mut self) -> Option<u8> {
+        self.up_to(255).map(|value| value as u8)
+    }
+}
+
+enum Record {
+    Command([u8; 16]),
+    Fill { offset: u32, count: u32, value: u8 },
+    Suspend,
+    Resume,
+    ResumeChanged,
+}
+
+fn read_record(numbers: &mut Numbers) -> Option<Record> {
+    match numbers.any()? {
+        0 => read_command(numbers),
+        1 => read_fill(numbers),
+        2 => Some(Record::Suspend),
+        3 => Some(Record::Resume),
+        4 => Some(Record::ResumeChanged),
+        _ => None,
+    }
+}
+
+fn read_command(numbers: &mut Numbers) -> Option<Record> {
+    let count = numbers.up_to(13)? as usize;
+    let mut regs = [0; 16];
+    for register in &mut regs[..count] {
+        *register = numbers.small()?;
+    }
+    Some(Record::Command(regs))
+}
+
+fn read_fill(numbers: &mut Numbers) -> Option<Record> {
+    let offset = numbers.any()?;
+    let count = numbers.any()?;
+    let value = numbers.small()?;
+    Some(Record::Fill { offset, count, value })
+}
+
+/// The bench's board.
+struct Board {
+    session: Session,
+    flash: Vec<u8>,
+    window: Vec<u8>,
+    out: Vec<u8>,
+}
+
+impl Board {
+    fn new() -> Board {
+        Board {
+            session: Session::fresh(),
+            flash: vec![0xFF; BENCH_FLASH_BLOCKS * BLOCK],
+            window: vec![0; BENCH_WINDOW_BLOCKS * BLOCK],
+            out: Vec::new(),
+        }
+    }
+
+    fn line(&mut self, text: &str) {
+        self.out.extend_from_slice(text.as_bytes());
+        self.out.push(b'\n');
+    }
+
+    /// Does one record; none if it breaks a rule.
+    fn apply(&mut self, record: Record) -> Option<()> {
+        match record {
+            Record::Command(regs) => self.command(regs),
+            Record::Fill { offset, count, value } => self.fill(offset, count, value)?,
+            Record::Suspend => {
+                suspend(&mut self.session);
+            }
+            Record::Resume => {
+                resume(&mut self.session);
+            }
+            Record::ResumeChanged => {
+                resume_changed(&mut self.session);
+            }
+        }
+        Some(())
+    }
+
+    fn command(&mut self, regs: [u8; 16]) {
+        let s = &mut self.session;
+        let (after, _) = command(s, regs, BENCH_B, BENCH_T, &mut self.flash, &mut self.window);
+        let hex: Vec<String> = after.iter().map(|byte| format!("{byte:02X}")).collect();
+        self.line(&hex.join(" "));
+    }
+
+    /// The host writes into an active write window.
+    fn fill(&mut self, offset: u32, count: u32, value: u8) -> Option<()> {
+        let end = u64::from(offset) + u64::from(count);
+        let bytes = u64::from(self.session.size) * BLOCK as u64;
+        if self.session.kind != Kind::Write || end > bytes {
+            return None;
+        }
+        self.window[offset as usize..end as usize].fill(value);
+        Some(())
+    }
+
+    fn flash_line(&mut self) {
+        let mut text = String::from("flash");
+        for block in self.flash.chunks(BLOCK) {
+            let count = block.iter().filter(|&&byte| byte != 0xFF).count();
+            text.push_str(&format!(" {count}"));
+        }
+        self.line(&text);
+    }
+}
+
+/// The bench program's standard output for this standard input.
+pub fn bench(input: &[u8]) -> Vec<u8> {
+    if input.len() > BENCH_INPUT {
+        return b"too long\n".to_vec();
+    }
+    let mut board = Board::new();
+    let mut numbers = Numbers { input, at: 0 };
+    while numbers.at < input.len() {
+        let start = numbers.at;
+        if read_record(&mut numbers).and_then(|record| board.apply(record)).is_none() {
+            board.line(&format!("bad input at {start}"));
+            break;
+        }
+    }
+    board.flash_line();
+    board.out
+}
+
+#[cfg(test)]
+mod tests {
+    use super::*;
+
+    // ------------------------------------------------------------- helpers
+
+    const WORKED_INPUT: &str = "00 03 02 01 02 00 06 06 02 03 00 02 00 01 00 AC 02 A5 01 00 06 \
+        07 03 00 00 02 00 00 06 07 04 00 00 01 00 00 02 08 04 00 02 08 05";
+    const WORKED_OUTPUT: &str = "\
+02 01 02 00 00 00 00 0C 08 00 00 00 00 01 00 81
+06 02 10 00 01 00 03 00 00 00 00 00 00 01 00 81
+07 03 00 00 00 00 00 00 00 00 00 00 00 02 00 81
+07 04 00 00 00 00 00 00 00 00 00 00 00 01 00 81
+08 04 00 00 00 00 00 00 00 00 00 00 00 08 00 81
+08 05 00 00 00 00 00 00 00 00 00 00 00 01 00 81
+flash 0 0 0 300
+";
+    const EMPTY_FLASH: &str = "flash 0 0 0 0\n";
+
+    fn hex(text: &str) -> Vec<u8> {
+        text.split_whitespace().map(|two| u8::from_str_radix(two, 16).unwrap()).collect()
+    }
+
+    fn bench_text(input: &[u8]) -> String {
+        String::from_utf8(bench(input)).unwrap()
+    }
+
+    fn bench_hex(text: &str) -> String {
+        bench_text(&hex(text))
+    }
+
+    /// A board of any size, for tests.
+    #[derive(Clone, Debug, PartialEq, Eq)]
+    struct Rig {
+        s: Session,
+        flash: Vec<u8>,
+        window: Vec<u8>,
+        b: u16,
+        t: u16,
+        next: u8,
+        actions: u32,
+    }
+
+    impl Rig {
+        /// S = 4, C = 2, B = 16, T = 8, that version, flash and window patterned.
+        fn new(version: u8) -> Rig {
+            Rig::sized(version, 4, 2)
+        }
+
+        fn sized(version: u8, flash_blocks: usize, window_blocks: usize) -> Rig {
+            Rig {
+                s: Session { version, ..Session::fresh() },
+                flash: pattern(flash_blocks * BLOCK, 1),
+                window: pattern(window_blocks * BLOCK, 99),
+                b: 16,
+                t: 8,
+                next: 1,
+                actions: 0,
+            }
+        }
+
+        /// With an open window.
+        fn open(version: u8, kind: Kind, first: u16, size: u16) -> Rig {
+            let mut rig = Rig::new(version);
+            rig.s.kind = kind;
+            rig.s.first = first;
+            rig.s.size = size;
+            copy_in(first.into(), size.into(), &rig.flash, &mut rig.window);
+            rig
+        }
+
+        /// Sends registers as they are.
+        fn raw(&mut self, regs: [u8; 16]) -> [u8; 16] {
+            let (after, actions) =
+                command(&mut self.s, regs, self.b, self.t, &mut self.flash, &mut self.window);
+            self.actions = actions;
+            after
+        }
+
+        /// Sends a command with a new sequence number.
+        fn send(&mut self, code: u8, args: &[u8]) -> [u8; 16] {
+            let sequence = self.next;
+            self.next = self.next.wrapping_add(1);
+            self.raw(regs(code, sequence, args))
+        }
+
+        /// As `send`, the response code alone.
+        fn code(&mut self, code: u8, args: &[u8]) -> u8 {
+            self.send(code, args)[13]
+        }
+
+        fn step(&mut self, done: u64) -> (u8, bool) {
+            step(&self.s, &mut self.flash, &self.window, done)
+        }
+    }
+
+    fn regs(code: u8, sequence: u8, args: &[u8]) -> [u8; 16] {
+        let mut regs = [0; 16];
+        regs[0] = code;
+        regs[1] = sequence;
+        regs[2..2 + args.len()].copy_from_slice(args);
+        regs
+    }
+
+    /// Two 16-bit arguments.
+    fn wk(w: u16, k: u16) -> Vec<u8> {
+        [w.to_le_bytes(), k.to_le_bytes()].concat()
+    }
+
+    /// Version 1's flash block and length in bytes.
+    fn al(a: u16, l: u32) -> Vec<u8> {
+        let mut args = a.to_le_bytes().to_vec();
+        args.extend_from_slice(&l.to_le_bytes());
+        args
+    }
+
+    /// Bytes that differ from place to place.
+    fn pattern(len: usize, seed: usize) -> Vec<u8> {
+        (0..len).map(|i| ((i + seed) * 31 + (i / 251) * 7 + (i / BLOCK) * 13) as u8).collect()
+    }
+
+    fn block(bytes: &[u8], n: usize) -> &[u8] {
+        &bytes[n * BLOCK..(n + 1) * BLOCK]
+    }
+
+    fn marks(rig: &Rig, n: usize) -> Vec<u8> {
+        assert!(rig.s.marks[n..].iter().all(|&m| m == 0));
+        rig.s.marks[..n].to_vec()
+    }
+
+    /// Sends, expects this refusal, and that it changed only the previous number.
+    fn refuses(rig: &mut Rig, code: u8, args: &[u8], answer: u8) {
+        let mut before = rig.clone();
+        let after = rig.send(code, args);
+        let mut expected = regs(code, before.next, &[]);
+        expected[13] = answer;
+        expected[15] = before.s.events;
+        assert_eq!(after, expected);
+        before.s.previous = Some(before.next);
+        before.next = before.next.wrapping_add(1);
+        before.actions = 0;
+        assert!(*rig == before, "a refusal changed something");
+    }
+
+    // -------------------------------------------------------- worked bench
+
+    #[test]
+    fn worked_bench() {
+        assert_eq!(bench_hex(WORKED_INPUT), WORKED_OUTPUT);
+    }
+
+    // -------------------------------------------------------- the examples
+
+    #[test]
+    fn example_01_versions() {
+        refuses(&mut Rig::new(2), GET_INFO, &[0], PARAM_ERROR);
+        let mut rig = Rig::new(2);
+        let after = rig.send(GET_INFO, &[1]);
+        assert_eq!(after, [2, 1, 1, 2, 0, 2, 0, 0, 0, 0, 0, 0, 0, 1, 0, 0x81]);
+        assert_eq!(rig.s.version, 1);
+        let after = rig.send(GET_INFO, &[255]);
+        assert_eq!(after, [2, 2, 2, 0, 0, 0, 0, 12, 8, 0, 0, 0, 0, 1, 0, 0x81]);
+        assert_eq!(rig.s.version, 2);
+    }
+
+    #[test]
+    fn example_02_create_near_the_end() {
+        for code in [CREATE_READ, CREATE_WRITE] {
+            let mut rig = Rig::new(2);
+            let after = rig.send(code, &wk(3, 0));
+            assert_eq!(after, [code, 1, 16, 0, 1, 0, 3, 0, 0, 0, 0, 0, 0, 1, 0, 0x81]);
+            assert_eq!((rig.s.first, rig.s.size), (3, 1));
+            let after = rig.send(code, &wk(4, 0));
+            assert_eq!(after, [code, 2, 0, 0, 0, 0, 0, 0, 0, 0, 0, 0, 0, 2, 0, 0x81]);
+            assert_eq!((rig.s.kind, rig.s.first, rig.s.size), (Kind::Closed, 0, 0));
+        }
+    }
+
+    #[test]
+    fn example_03_hints() {
+        for (hint, size) in [(0, 2), (1, 1), (2, 2), (3, 2), (65_535, 2)] {
+            let mut rig = Rig::new(2);
+            let after = rig.send(CREATE_WRITE, &wk(0, hint));
+            assert_eq!(&after[2..8], &[16, 0, size, 0, 0, 0]);
+            assert_eq!(rig.s.size, size.into());
+        }
+    }
+
+    #[test]
+    fn example_04_whole_number_sum() {
+        let mut rig = Rig::open(2, Kind::Write, 0, 2);
+        refuses(&mut rig, MARK_DIRTY, &wk(65_535, 2), PARAM_ERROR);
+        refuses(&mut rig, ERASE, &wk(65_535, 2), PARAM_ERROR);
+        refuses(&mut rig, MARK_DIRTY, &wk(2, 65_535), PARAM_ERROR);
+        refuses(&mut rig, MARK_DIRTY, &wk(65_535, 65_535), PARAM_ERROR);
+    }
+
+    #[test]
+    fn example_05_nothing_to_mark() {
+        for code in [MARK_DIRTY, ERASE] {
+            let mut rig = Rig::open(2, Kind::Write, 0, 2);
+            let before = rig.clone();
+            assert_eq!(rig.code(code, &wk(2, 0)), SUCCESS);
+            assert_eq!(rig.s.marks, before.s.marks);
+            assert!(rig.window == before.window);
+            refuses(&mut rig, code, &wk(3, 0), PARAM_ERROR);
+        }
+    }
+
+    #[test]
+    fn example_06_version_1_lengths() {
+        let cases = [(4_096, vec![1, 0]), (4_097, vec![1, 1]), (8_192, vec![1, 1]), (1, vec![1, 0])];
+        for (l, expected) in cases {
+            let mut rig = Rig::open(1, Kind::Write, 1, 2);
+            assert_eq!(rig.code(MARK_DIRTY, &al(1, l)), SUCCESS);
+            assert_eq!(marks(&rig, 2), expected);
+        }
+        let mut rig = Rig::open(1, Kind::Write, 1, 2);
+        refuses(&mut rig, MARK_DIRTY, &al(1, 8_193), PARAM_ERROR);
+        refuses(&mut rig, MARK_DIRTY, &al(0, 1), PARAM_ERROR);
+    }
+
+    #[test]
+    fn example_07_read_window() {
+        for (version, code) in [(2, WINDOW_ERROR), (1, PARAM_ERROR)] {
+            refuses(&mut Rig::open(version, Kind::Read, 0, 2), MARK_DIRTY, &wk(0, 1), code);
+            refuses(&mut Rig::open(version, Kind::Read, 0, 2), FLUSH, &[], code);
+            refuses(&mut Rig::new(version), MARK_DIRTY, &wk(0, 0), code);
+            refuses(&mut Rig::new(version), FLUSH, &[], code);
+        }
+        refuses(&mut Rig::open(2, Kind::Read, 0, 2), ERASE, &wk(0, 1), WINDOW_ERROR);
+        refuses(&mut Rig::new(2), ERASE, &wk(0, 1), WINDOW_ERROR);
+    }
+
+    #[test]
+    fn example_08_latest_mark_counts() {
+        for (codes, count) in [([ERASE, MARK_DIRTY], 17), ([MARK_DIRTY, ERASE], 1)] {
+            let mut rig = Rig::open(2, Kind::Write, 0, 2);
+            for code in codes {
+                assert_eq!(rig.code(code, &wk(1, 1)), SUCCESS);
+                assert_eq!(rig.actions, 0);
+            }
+            assert_eq!(flush_actions(&rig.s), count);
+            assert_eq!(rig.code(FLUSH, &[]), SUCCESS);
+            assert_eq!(rig.actions, count);
+            assert_eq!(flush_actions(&rig.s), 0);
+        }
+    }
+
+    #[test]
+    fn example_09_states_between() {
+        let mut rig = Rig::open(2, Kind::Write, 2, 2);
+        let old = rig.flash.clone();
+        rig.window = pattern(2 * BLOCK, 7);
+        let new = block(&rig.window, 1).to_vec();
+        rig.s.marks[1] = DIRTY;
+        let mut states = vec![block(&rig.flash, 3).to_vec()];
+        for j in 0..17 {
+            assert_eq!(rig.step(j), (SUCCESS, true));
+            states.push(block(&rig.flash, 3).to_vec());
+        }
+        assert!(states[0] == block(&old, 3));
+        assert!(states[1] == vec![0xFF; BLOCK]);
+        assert!(states[2][..PAGE] == new[..PAGE]);
+        assert!(states[2][PAGE..].iter().all(|&byte| byte == 0xFF));
+        assert!(states[17] == new);
+        assert_eq!(rig.step(17), (SUCCESS, false));
+        assert!(rig.flash[..3 * BLOCK] == old[..3 * BLOCK]);
+        assert!(block(&rig.flash, 3) == new);
+    }
+
+    #[test]
+    fn example_10_suspended_flush() {
+        for (version, code) in [(2, 6), (1, 5)] {
+            let mut rig = Rig::open(version, Kind::Write, 0, 2);
+            rig.s.marks[0] = DIRTY;
+            assert!(suspend(&mut rig.s));
+            refuses(&mut rig, FLUSH, &[], code);
+        }
+    }
+
+    #[test]
+    fn example_11_repeated_sequence() {
+        for (version, code) in [(2, 8), (1, 2), (0, 2)] {
+            let mut rig = Rig::new(version);
+            assert_eq!(rig.raw(regs(ACK, 9, &[0]))[13], SUCCESS);
+            assert_eq!(rig.raw(regs(ACK, 9, &[0xFF]))[13], code);
+            assert_eq!(rig.s.events, 0x81);
+            assert_eq!(rig.raw(regs(GET_INFO, 9, &[2]))[13], SUCCESS);
+            assert_eq!(rig.s.previous, Some(9));
+        }
+    }
+
+    #[test]
+    fn example_12_bitwise_and() {
+        let mut page = [0xF0, 0xFF];
+        program(&mut page, &[0x0F, 0xF0]);
+        assert_eq!(page, [0x00, 0xF0]);
+        let mut rig = Rig::open(2, Kind::Write, 0, 1);
+        rig.s.marks[0] = DIRTY;
+        (rig.flash[0], rig.flash[1]) = (0xF0, 0xFF);
+        (rig.window[0], rig.window[1]) = (0x0F, 0xF0);
+        assert_eq!(rig.step(1), (SUCCESS, true));
+        assert_eq!(rig.flash[..2], [0x00, 0xF0]);
+    }
+
+    #[test]
+    fn largest_flash_at_version_1() {
+        let mut rig = Rig::new(1);
+        rig.flash = vec![0; 65_535 * BLOCK];
+        let after = rig.send(GET_FLASH_INFO, &[]);
+        assert_eq!(&after[2..13], &hex("00 F0 FF 0F 00 10 00 00 00 00 00")[..]);
+        assert_eq!(after[13], SUCCESS);
+        rig.s.version = 2;
+        let after = rig.send(GET_FLASH_INFO, &[]);
+        assert_eq!(&after[2..13], &hex("FF FF 01 00 00 00 00 00 00 00 00")[..]);
+        let after = rig.send(CREATE_READ, &wk(65_534, 0));
+        assert_eq!(&after[2..9], &hex("10 00 01 00 FE FF 00")[..]);
+        assert_eq!(rig.code(CREATE_READ, &wk(65_535, 0)), PARAM_ERROR);
+        assert_eq!(rig.s.kind, Kind::Closed);
+    }
+
+    // ---------------------------------------------------- order of refusals
+
+    #[test]
+    fn order_system_error_first() {
+        let mut rig = Rig::new(2);
+        rig.s.previous = Some(5);
+        rig.s.suspended = true;
+        rig.s.marks[0] = DIRTY;
+        for code in [GET_INFO, 200, MARK_DIRTY] {
+            let before = rig.clone();
+            let mut sent = [0xAB; 16];
+            sent[0] = code;
+            sent[1] = 5;
+            let after = rig.raw(sent);
+            let mut expected = regs(code, 5, &[]);
+            expected[13] = SYSTEM_ERROR;
+            expected[14] = 0xAB;
+            expected[15] = 0x81;
+            assert_eq!(after, expected);
+            assert!(rig == before);
+        }
+    }
+
+    #[test]
+    fn order_sequence_before_unknown() {
+        for (version, sequence_code) in [(2, 8), (1, 2), (0, 2)] {
+            let mut rig = Rig::new(version);
+            rig.s.suspended = true;
+            rig.s.previous = Some(5);
+            assert_eq!(rig.raw(regs(11, 5, &[]))[13], sequence_code);
+            assert_eq!(rig.raw(regs(0, 5, &[]))[13], sequence_code);
+        }
+    }
+
+    #[test]
+    fn order_unknown_before_suspended() {
+        let unknown = [(2, vec![0, 11, 255]), (1, vec![0, 10, 11]), (0, vec![0, 3, 4, 5, 6, 7, 8, 10])];
+        for (version, codes) in unknown {
+            for code in codes {
+                let mut rig = Rig::open(version, Kind::Read, 0, 1);
+                rig.s.suspended = true;
+                refuses(&mut rig, code, &[1, 1, 1], PARAM_ERROR);
+            }
+        }
+    }
+
+    #[test]
+    fn order_suspended_before_window_and_arguments() {
+        for (version, busy) in [(2, 6), (1, 5)] {
+            let mut rig = Rig::open(version, Kind::Read, 0, 2);
+            assert!(suspend(&mut rig.s));
+            refuses(&mut rig, MARK_DIRTY, &wk(9, 9), busy);
+            refuses(&mut rig, CREATE_READ, &wk(4, 0), busy);
+            refuses(&mut rig, CLOSE, &[], busy);
+            refuses(&mut rig, GET_FLASH_INFO, &[], busy);
+        }
+    }
+
+    #[test]
+    fn order_window_before_arguments() {
+        let mut rig = Rig::open(2, Kind::Read, 0, 2);
+        refuses(&mut rig, MARK_DIRTY, &wk(9, 9), WINDOW_ERROR);
+        refuses(&mut rig, ERASE, &wk(9, 9), WINDOW_ERROR);
+    }
+
+    #[test]
+    fn get_info_is_refused_for_its_argument_while_suspended() {
+        let mut rig = Rig::new(1);
+        assert!(suspend(&mut rig.s));
+        rig.s.previous = Some(rig.next);
+        refuses(&mut rig, GET_INFO, &[0], PARAM_ERROR);
+    }
+
+    // ----------------------------------------------------------------- cuts
+
+    /// What the first j actions make of the flash, by arithmetic over bytes.
+    fn flash_after(rig: &Rig, j: usize) -> Vec<u8> {
+        let mut flash = rig.flash.clone();
+        let mut before = 0;
+        for n in 0..usize::from(rig.s.size) {
+            let total = [0, 17, 1][usize::from(rig.s.marks[n])];
+            let own = j.saturating_sub(before).min(total);
+            before += total;
+            for i in 0..BLOCK {
+                let at = (usize::from(rig.s.first) + n) * BLOCK + i;
+                if own >= 1 {
+                    flash[at] = 0xFF;
+                }
+                if own >= 2 + i / PAGE {
+                    flash[at] = rig.window[n * BLOCK + i];
+                }
+            }
+        }
+        flash
+    }
+
+    /// S = 6, C = 4, a write window of 4 blocks at 1, the host wrote everywhere.
+    fn cut_rig(marks: [u8; 4]) -> Rig {
+        let mut rig = Rig::sized(2, 6, 4);
+        assert_eq!(rig.code(CREATE_WRITE, &wk(1, 4)), SUCCESS);
+        host_work(&mut rig, marks);
+        rig
+    }
+
+    fn host_work(rig: &mut Rig, marks: [u8; 4]) {
+        for (n, mark) in marks.into_iter().enumerate() {
+            let code = [ACK, MARK_DIRTY, ERASE][usize::from(mark)];
+            let args = if mark == CLEAN { vec![0] } else { wk(n as u16, 1) };
+            assert_eq!(rig.code(code, &args), SUCCESS);
+        }
+        rig.window = pattern(4 * BLOCK, 177);
+    }
+
+    fn all_marks() -> Vec<[u8; 4]> {
+        (0..81).map(|n| [n % 3, n / 3 % 3, n / 9 % 3, n / 27]).collect()
+    }
+
+    #[test]
+    fn every_cut_of_a_small_window() {
+        for marks in [[1, 0, 2, 1], [2, 1, 0, 2], [1, 1, 1, 1], [0, 0, 0, 0], [2, 2, 2, 2]] {
+            let start = cut_rig(marks);
+            let total = flush_actions(&start.s) as usize;
+            let mut rig = start.clone();
+            for j in 0..total {
+                assert!(rig.flash == flash_after(&start, j));
+                assert_eq!(rig.step(j as u64), (SUCCESS, true));
+            }
+            for past in [total as u64, total as u64 + 1, u64::MAX] {
+                assert_eq!(rig.step(past), (SUCCESS, false));
+            }
+            assert!(rig.flash == flash_after(&start, total));
+            assert!(rig.s == start.s && rig.window == start.window);
+        }
+    }
+
+    #[test]
+    fn steps_make_what_flush_makes() {
+        for marks in all_marks() {
+            let start = cut_rig(marks);
+            let mut stepped = start.clone();
+            let mut count = 0;
+            while stepped.step(count).1 {
+                count += 1;
+            }
+            let mut flushed = start.clone();
+            assert_eq!(flushed.code(FLUSH, &[]), SUCCESS);
+            assert_eq!(u64::from(flushed.actions), count);
+            assert_eq!(flush_actions(&start.s), flushed.actions);
+            assert!(flushed.flash == stepped.flash && flushed.window == start.window);
+            assert_eq!(flushed.s.marks, [0; 64]);
+            assert_eq!((flushed.s.kind, flushed.s.first, flushed.s.size), (Kind::Write, 1, 4));
+        }
+    }
+
+    #[test]
+    fn second_run_after_every_cut() {
+        let marks = [1, 2, 0, 1];
+        let start = cut_rig(marks);
+        let total = flush_actions(&start.s);
+        let mut never_stopped = start.clone();
+        assert_eq!(never_stopped.code(FLUSH, &[]), SUCCESS);
+        let mut cut = start.clone();
+        for j in 0..=u64::from(total) {
+            let mut again = Rig::sized(0, 6, 4);
+            again.flash = cut.flash.clone();
+            assert_eq!(again.code(GET_INFO, &[2]), SUCCESS);
+            assert_eq!(again.code(CREATE_WRITE, &wk(1, 4)), SUCCESS);
+            host_work(&mut again, marks);
+            assert_eq!(again.code(FLUSH, &[]), SUCCESS);
+            assert_eq!(again.actions, total);
+            assert!(again.flash == never_stopped.flash);
+            cut.step(j);
+        }
+    }
+
+    #[test]
+    fn most_actions() {
+        let mut rig = Rig::sized(2, 64, 64);
+        assert_eq!(rig.code(CREATE_WRITE, &wk(0, 0)), SUCCESS);
+        rig.window = pattern(64 * BLOCK, 5);
+        assert_eq!(rig.code(MARK_DIRTY, &wk(0, 64)), SUCCESS);
+        assert_eq!(flush_actions(&rig.s), 1_088);
+        assert_eq!(rig.code(FLUSH, &[]), SUCCESS);
+        assert_eq!(rig.actions, 1_088);
+        assert!(rig.flash == rig.window);
+    }
+
+    #[test]
+    fn step_refusals() {
+        let start = cut_rig([1, 2, 0, 1]);
+        for version in 0..=2 {
+            let mut rig = start.clone();
+            rig.s.version = version;
+            assert!(suspend(&mut rig.s));
+            assert_eq!(rig.step(0), (BUSY, false));
+            assert_eq!(rig.step(u64::MAX), (BUSY, false));
+            assert!(rig.flash == start.flash);
+            assert!(resume(&mut rig.s));
+            assert_eq!(rig.step(0), (SUCCESS, true));
+        }
+        let mut rig = start.clone();
+        rig.s.version = 3;
+        rig.s.suspended = true;
+        assert_eq!(rig.step(0), (SYSTEM_ERROR, false));
+        assert_eq!(step(&start.s, &mut [], &[], 0), (SYSTEM_ERROR, false));
+        let mut flash = start.flash.clone();
+        assert_eq!(step(&start.s, &mut flash, &start.window[1..], 0), (SYSTEM_ERROR, false));
+        assert!(flash == start.flash);
+    }
+
+    #[test]
+    fn step_without_a_write_window_has_nothing_to_do() {
+        assert_eq!(Rig::new(2).step(0), (SUCCESS, false));
+        assert_eq!(Rig::open(2, Kind::Read, 0, 2).step(0), (SUCCESS, false));
+    }
+
+    // ------------------------------------- QUESTIONS.md, more than one reading
+
+    #[test]
+    fn question_2_nothing_at_the_windows_end_at_version_1() {
+        let mut rig = Rig::open(1, Kind::Write, 1, 2);
+        for a in [1, 2, 3] {
+            assert_eq!(rig.code(MARK_DIRTY, &al(a, 0)), SUCCESS);
+        }
+        assert_eq!(rig.s.marks, [0; 64]);
+        refuses(&mut rig, MARK_DIRTY, &al(4, 0), PARAM_ERROR);
+        refuses(&mut rig, MARK_DIRTY, &al(0, 0), PARAM_ERROR);
+    }
+
+    #[test]
+    fn question_3_dropping_an_unsound_window() {
+        let mut s = Session {
+            version: 77,
+            previous: Some(3),
+            events: 0x40,
+            suspended: true,
+            kind: Kind::Closed,
+            first: 9,
+            size: 999,
+            marks: [200; 64],
+        };
+        assert!(resume_changed(&mut s));
+        let expected =
+            Session { version: 77, previous: Some(3), events: 0x02, ..Session::fresh() };
+        assert_eq!(s, expected);
+        assert!(!resume_changed(&mut s));
+        assert_eq!(s, expected);
+    }
+
+    #[test]
+    fn question_4_version_0_with_a_window() {
+        let mut rig = Rig::open(0, Kind::Write, 0, 2);
+        rig.s.marks[0] = DIRTY;
+        assert!(sound_with_lpc(&rig.s, rig.flash.len(), rig.window.len(), rig.b));
+        refuses(&mut rig, FLUSH, &[], PARAM_ERROR);
+        refuses(&mut rig, CLOSE, &[], PARAM_ERROR);
+        assert_eq!(rig.step(0), (SUCCESS, true));
+    }
+
+    #[test]
+    fn question_6_silent_records_and_fills() {
+        assert_eq!(bench_hex("02 02 03 03 04 02 04"), EMPTY_FLASH);
+        assert_eq!(bench_hex("01 00 00 00"), "bad input at 0\nflash 0 0 0 0\n");
+        let open = "00 03 02 01 02 00 06 06 02 03 00 02 00 ";
+        let ends = |rest: &str| bench_hex(&(open.to_owned() + rest));
+        assert!(ends("01 00 00 00").ends_with("81\nflash 0 0 0 0\n"));
+        assert!(ends("02 01 80 20 00 00 01 00 80 20 00").ends_with("81\nflash 0 0 0 0\n"));
+        assert!(ends("01 81 20 00 00").ends_with("81\nbad input at 13\nflash 0 0 0 0\n"));
+        let read = bench_hex("00 03 02 01 02 00 06 04 02 03 00 02 00 01 00 00 00");
+        assert!(read.ends_with("81\nbad input at 13\nflash 0 0 0 0\n"));
+    }
+
+    // ---------------------- QUESTIONS.md, decided by the text, easily got wrong
+
+    #[test]
+    fn repeated_unknown_while_suspended_is_a_sequence_error() {
+        let mut rig = Rig::new(2);
+        assert!(suspend(&mut rig.s));
+        rig.s.previous = Some(7);
+        let after = rig.raw(regs(99, 7, &[1, 2, 3]));
+        assert_eq!(after, [99, 7, 0, 0, 0, 0, 0, 0, 0, 0, 0, 0, 0, 8, 0, 0xC1]);
+    }
+
+    #[test]
+    fn only_get_info_is_free_from_the_sequence_check() {
+        for code in [RESET, ACK] {
+            let mut rig = Rig::open(2, Kind::Write, 0, 2);
+            rig.s.previous = Some(rig.next);
+            refuses(&mut rig, code, &[0xFF], SEQ_ERROR);
+        }
+    }
+
+    #[test]
+    fn reset_while_suspended_is_refused() {
+        for (version, code) in [(2, 6), (1, 5), (0, 5)] {
+            let mut rig = Rig::open(version, Kind::Write, 0, 2);
+            assert!(suspend(&mut rig.s));
+            refuses(&mut rig, RESET, &[], code);
+        }
+    }
+
+    #[test]
+    fn reset_drops_without_a_flush() {
+        for version in 0..=2 {
+            let mut rig = Rig::open(version, Kind::Write, 1, 2);
+            rig.s.marks[1] = DIRTY;
+            let before = rig.clone();
+            let after = rig.send(RESET, &[5; 11]);
+            assert_eq!(after, [1, 1, 0, 0, 0, 0, 0, 0, 0, 0, 0, 0, 0, 1, 0, 0x81]);
+            let expected = Session { version, previous: Some(1), ..Session::fresh() };
+            assert_eq!((rig.s.clone(), rig.actions), (expected, 0));
+            assert!(rig.flash == before.flash && rig.window == before.window);
+        }
+    }
+
+    #[test]
+    fn system_error_is_4_at_every_version() {
+        for version in 0..=3 {
+            let mut rig = Rig::new(version);
+            rig.s.size = 1;
+            rig.s.previous = Some(1);
+            rig.s.events = 0x5A;
+            let before = rig.clone();
+            let mut sent = [0xEE; 16];
+            sent[1] = 1;
+            let mut expected = [0; 16];
+            (expected[0], expected[1]) = (0xEE, 1);
+            (expected[13], expected[14], expected[15]) = (4, 0xEE, 0x5A);
+            assert_eq!(rig.raw(sent), expected);
+            assert!(rig == before);
+        }
+    }
+
+    #[test]
+    fn bytes_14_and_15() {
+        let mut rig = Rig::new(2);
+        let mut sent = regs(ACK, 1, &[0x80]);
+        sent[13] = 0x77;
+        sent[14] = 0xA1;
+        sent[15] = 0xB2;
+        let after = rig.raw(sent);
+        assert_eq!(&after[13..], &[1, 0xA1, 0x01]);
+    }
+
+    #[test]
+    fn every_answered_command_sets_the_previous_number() {
+        let mut rig = Rig::new(0);
+        assert_eq!(rig.raw(regs(ACK, 0, &[0]))[13], SUCCESS);
+        assert_eq!(rig.s.previous, Some(0));
+        assert_eq!(rig.raw(regs(CLOSE, 1, &[]))[13], PARAM_ERROR);
+        assert_eq!(rig.s.previous, Some(1));
+        assert_eq!(rig.raw(regs(ACK, 1, &[0]))[13], PARAM_ERROR);
+        assert_eq!(rig.s.previous, Some(1));
+        assert_eq!(rig.raw(regs(GET_INFO, 2, &[0]))[13], PARAM_ERROR);
+        assert_eq!(rig.s.previous, Some(2));
+        rig.flash.push(0);
+        assert_eq!(rig.raw(regs(ACK, 3, &[0]))[13], SYSTEM_ERROR);
+        assert_eq!(rig.s.previous, Some(2));
+    }
+
+    #[test]
+    fn get_info_zero_leaves_the_version() {
+        for version in 0..=2 {
+            refuses(&mut Rig::new(version), GET_INFO, &[0, 2], PARAM_ERROR);
+        }
+    }
+
+    #[test]
+    fn get_info_keeps_window_and_marks() {
+        let mut rig = Rig::open(2, Kind::Write, 1, 2);
+        assert_eq!(rig.code(ERASE, &wk(1, 1)), SUCCESS);
+        let before = rig.clone();
+        let after = rig.send(GET_INFO, &[1]);
+        assert_eq!(&after[2..13], &[1, 2, 0, 2, 0, 0, 0, 0, 0, 0, 0]);
+        assert_eq!(marks(&rig, 2), [0, 2]);
+        assert_eq!((rig.s.kind, rig.s.first, rig.s.size), (Kind::Write, 1, 2));
+        assert_eq!(rig.code(FLUSH, &al(9, 0)), SUCCESS);
+        assert_eq!(rig.actions, 1);
+        assert!(block(&rig.flash, 2) == vec![0xFF; BLOCK]);
+        assert!(block(&rig.flash, 1) == block(&before.flash, 1));
+    }
+
+    #[test]
+    fn create_flushes_before_it_copies() {
+        let mut rig = Rig::open(2, Kind::Write, 0, 2);
+        rig.window = pattern(2 * BLOCK, 55);
+        let host = rig.window.clone();
+        let before = rig.clone();
+        assert_eq!(rig.code(MARK_DIRTY, &wk(1, 1)), SUCCESS);
+        let after = rig.send(CREATE_READ, &wk(1, 0));
+        assert_eq!(&after[2..8], &[16, 0, 2, 0, 1, 0]);
+        assert_eq!(rig.actions, 17);
+        assert!(block(&rig.flash, 1) == block(&host, 1));
+        assert!(block(&rig.window, 0) == block(&host, 1));
+        assert!(block(&rig.window, 1) == block(&before.flash, 2));
+        assert_eq!((rig.s.kind, rig.s.marks), (Kind::Read, [0; 64]));
+    }
+
+    #[test]
+    fn create_leaves_the_rest_of_window_memory() {
+        let mut rig = Rig::new(2);
+        let before = rig.clone();
+        assert_eq!(rig.code(CREATE_WRITE, &wk(2, 1)), SUCCESS);
+        assert!(block(&rig.window, 0) == block(&before.flash, 2));
+        assert!(block(&rig.window, 1) == block(&before.window, 1));
+        assert!(rig.flash == before.flash);
+    }
+
+    #[test]
+    fn create_refused_for_its_argument_has_flushed() {
+        let mut rig = Rig::open(2, Kind::Write, 0, 2);
+        rig.window = pattern(2 * BLOCK, 55);
+        assert_eq!(rig.code(ERASE, &wk(0, 1)), SUCCESS);
+        assert_eq!(rig.code(MARK_DIRTY, &wk(1, 1)), SUCCESS);
+        let before = rig.clone();
+        let after = rig.send(CREATE_WRITE, &wk(4, 1));
+        assert_eq!(after, [6, 3, 0, 0, 0, 0, 0, 0, 0, 0, 0, 0, 0, 2, 0, 0x81]);
+        assert_eq!(rig.actions, 18);
+        assert!(block(&rig.flash, 0) == vec![0xFF; BLOCK]);
+        assert!(block(&rig.flash, 1) == block(&before.window, 1));
+        assert!(rig.window == before.window);
+        assert_eq!(rig.s, Session { version: 2, previous: Some(3), ..Session::fresh() });
+    }
+
+    #[test]
+    fn create_refused_for_its_argument_drops_a_read_window() {
+        for version in 1..=2 {
+            let mut rig = Rig::open(version, Kind::Read, 0, 2);
+            let before = rig.clone();
+            assert_eq!(rig.code(CREATE_READ, &wk(65_535, 0)), PARAM_ERROR);
+            assert_eq!(rig.s, Session { version, previous: Some(1), ..Session::fresh() });
+            assert!(rig.flash == before.flash && rig.window == before.window);
+        }
+    }
+
+    #[test]
+    fn create_refused_earlier_keeps_everything() {
+        let mut rig = Rig::open(2, Kind::Write, 0, 2);
+        rig.s.marks[0] = DIRTY;
+        rig.window = pattern(2 * BLOCK, 55);
+        rig.s.previous = Some(rig.next);
+        refuses(&mut rig, CREATE_WRITE, &wk(4, 0), SEQ_ERROR);
+        assert!(suspend(&mut rig.s));
+        refuses(&mut rig, CREATE_WRITE, &wk(4, 0), BUSY);
+        rig.s.version = 0;
+        refuses(&mut rig, CREATE_WRITE, &wk(4, 0), PARAM_ERROR);
+    }
+
+    #[test]
+    fn create_at_version_1_has_no_hint() {
+        for hint in [0, 1, 65_535] {
+            let mut rig = Rig::new(1);
+            let after = rig.send(CREATE_WRITE, &wk(1, hint));
+            assert_eq!(after, [6, 1, 16, 0, 0, 0, 0, 0, 0, 0, 0, 0, 0, 1, 0, 0x81]);
+            assert_eq!((rig.s.first, rig.s.size), (1, 2));
+        }
+    }
+
+    #[test]
+    fn flush_at_version_1() {
+        let mut rig = Rig::open(1, Kind::Write, 1, 2);
+        rig.window = pattern(2 * BLOCK, 55);
+        rig.s.marks[0] = ERASED;
+        refuses(&mut rig, FLUSH, &al(0, 1), PARAM_ERROR);
+        refuses(&mut rig, FLUSH, &al(3, 1), PARAM_ERROR);
+        refuses(&mut rig, FLUSH, &al(2, 4_097), PARAM_ERROR);
+        let mut marked = rig.clone();
+        assert_eq!(marked.code(FLUSH, &al(2, 1)), SUCCESS);
+        assert_eq!(marked.actions, 18);
+        assert!(block(&marked.flash, 2) == block(&rig.window, 1));
+        assert_eq!(marked.s.marks, [0; 64]);
+        for a in [0, 1, 3, 4, 65_535] {
+            let mut unmarked = rig.clone();
+            assert_eq!(unmarked.code(FLUSH, &al(a, 0)), SUCCESS);
+            assert_eq!(unmarked.actions, 1);
+            assert!(block(&unmarked.flash, 2) == block(&rig.flash, 2));
+        }
+    }
+
+    #[test]
+    fn flush_at_version_2_has_no_arguments() {
+        let mut rig = Rig::open(2, Kind::Write, 1, 2);
+        let before = rig.clone();
+        assert_eq!(rig.code(FLUSH, &[0xFF; 11]), SUCCESS);
+        assert_eq!(rig.actions, 0);
+        assert!(rig.flash == before.flash);
+    }
+
+    #[test]
+    fn version_1_lengths_to_the_largest() {
+        let mut rig = Rig::open(1, Kind::Write, 1, 2);
+        for l in [u32::MAX, u32::MAX - 4_094, 0xFFFF_F000, 0x1000_0000, 65_536 * 4_096 - 4_096] {
+            for a in [1, 2, 65_535] {
+                refuses(&mut rig, MARK_DIRTY, &al(a, l), PARAM_ERROR);
+                refuses(&mut rig, FLUSH, &al(a, l), PARAM_ERROR);
+            }
+        }
+    }
+
+    #[test]
+    fn nothing_to_mark_is_still_checked() {
+        for size in 1..=2 {
+            let mut rig = Rig::open(2, Kind::Write, 0, size);
+            assert_eq!(rig.code(MARK_DIRTY, &wk(size, 0)), SUCCESS);
+            refuses(&mut rig, MARK_DIRTY, &wk(size + 1, 0), PARAM_ERROR);
+            refuses(&mut rig, MARK_DIRTY, &wk(65_535, 0), PARAM_ERROR);
+        }
+    }
+
+    #[test]
+    fn flush_takes_window_memory_as_it_is() {
+        let mut rig = Rig::sized(2, 4, 3);
+        assert_eq!(rig.code(CREATE_WRITE, &wk(1, 0)), SUCCESS);
+        assert_eq!(rig.code(MARK_DIRTY, &wk(0, 1)), SUCCESS);
+        assert_eq!(rig.code(ERASE, &wk(1, 1)), SUCCESS);
+        assert!(block(&rig.window, 1) == vec![0xFF; BLOCK]);
+        let before = rig.clone();
+        rig.window = pattern(3 * BLOCK, 200);
+        assert_eq!(rig.code(FLUSH, &[]), SUCCESS);
+        assert_eq!(rig.actions, 18);
+        assert!(block(&rig.flash, 0) == block(&before.flash, 0));
+        assert!(block(&rig.flash, 1) == block(&rig.window, 0));
+        assert!(block(&rig.flash, 2) == vec![0xFF; BLOCK]);
+        assert!(block(&rig.flash, 3) == block(&before.flash, 3));
+    }
+
+    #[test]
+    fn close_flushes_and_drops() {
+        let mut rig = Rig::open(2, Kind::Write, 1, 2);
+        rig.window = pattern(2 * BLOCK, 55);
+        rig.s.marks[1] = DIRTY;
+        assert_eq!(rig.code(CLOSE, &[0xFF]), SUCCESS);
+        assert_eq!(rig.actions, 17);
+        assert!(block(&rig.flash, 2) == block(&rig.window, 1));
+        assert_eq!(rig.s, Session { version: 2, previous: Some(1), ..Session::fresh() });
+        let before = rig.clone();
+        assert_eq!(rig.code(CLOSE, &[]), SUCCESS);
+        assert_eq!(rig.actions, 0);
+        assert!(rig.flash == before.flash && rig.window == before.window);
+    }
+
+    #[test]
+    fn ack_clears_any_bit_and_leaves_the_suspension() {
+        let mut rig = Rig::new(2);
+        assert!(suspend(&mut rig.s));
+        assert_eq!(rig.send(ACK, &[0xC0])[15], 0x01);
+        assert!(rig.s.suspended);
+        assert!(!suspend(&mut rig.s));
+        assert_eq!(rig.s.events, 0x01);
+        assert_eq!(rig.code(FLUSH, &[]), BUSY);
+        assert!(resume(&mut rig.s));
+        assert_eq!(rig.s.events, 0x01);
+    }
+
+    #[test]
+    fn suspend_and_resume_go_by_the_suspension() {
+        let mut s = Session { events: 0x40, ..Session::fresh() };
+        let before = s.clone();
+        assert!(!resume(&mut s));
+        assert!(!resume_changed(&mut s));
+        assert_eq!(s, before);
+        assert!(suspend(&mut s));
+        assert_eq!((s.suspended, s.events), (true, 0x40));
+        assert!(!suspend(&mut s));
+        assert!(resume(&mut s));
+        assert_eq!((s.suspended, s.events), (false, 0));
+    }
+
+    #[test]
+    fn resume_keeps_the_window_unless_the_flash_changed() {
+        let mut rig = Rig::open(2, Kind::Write, 1, 2);
+        rig.s.marks[1] = ERASED;
+        let before = rig.s.clone();
+        assert!(suspend(&mut rig.s));
+        assert!(resume(&mut rig.s));
+        assert_eq!(rig.s, before);
+        assert!(suspend(&mut rig.s));
+        assert!(resume_changed(&mut rig.s));
+        assert_eq!(rig.s, Session { version: 2, events: 0x83, ..Session::fresh() });
+    }
+
+    #[test]
+    fn lent_sizes() {
+        let s = Session::fresh();
+        let good = |flash_len, window_len, b| sound_with_lpc(&s, flash_len, window_len, b);
+        assert!(good(BLOCK, BLOCK, 0));
+        assert!(good(65_535 * BLOCK, 64 * BLOCK, 0));
+        assert!(good(BLOCK, BLOCK, 65_535));
+        assert!(good(BLOCK, 64 * BLOCK, 65_472));
+        assert!(!good(BLOCK, 2 * BLOCK, 65_535));
+        assert!(!good(BLOCK, 64 * BLOCK, 65_473));
+        assert!(!good(0, BLOCK, 0));
+        assert!(!good(BLOCK, 0, 0));
+        assert!(!good(BLOCK + 1, BLOCK, 0));
+        assert!(!good(BLOCK, BLOCK - 1, 0));
+        assert!(!good(BLOCK, 64 * BLOCK + 1, 0));
+        assert!(!good(65_536 * BLOCK, BLOCK, 0));
+        assert!(!good(BLOCK, 65 * BLOCK, 0));
+        assert!(sound(&s, BLOCK, 64 * BLOCK));
+    }
+
+    #[test]
+    fn lent_sizes_answer_system_error() {
+        for (flash_len, window_len, b) in
+            [(0, BLOCK, 0), (BLOCK, 0, 0), (0, 0, 0), (100, BLOCK, 0), (BLOCK, 2 * BLOCK, 65_535)]
+        {
+            let mut rig = Rig::new(2);
+            rig.flash.truncate(flash_len);
+            rig.window.truncate(window_len);
+            rig.b = b;
+            let before = rig.clone();
+            let after = rig.raw(regs(GET_INFO, 3, &[2]));
+            assert_eq!(after, [2, 3, 0, 0, 0, 0, 0, 0, 0, 0, 0, 0, 0, 4, 0, 0x81]);
+            assert!(rig == before);
+        }
+    }
+
+    #[test]
+    fn unsound_sessions() {
+        let base = Rig::open(2, Kind::Write, 2, 2).s;
+        let is_sound = |s: &Session| sound(s, 4 * BLOCK, 2 * BLOCK);
+        assert!(is_sound(&base));
+        let with = |change: &dyn Fn(&mut Session)| {
+            let mut s = base.clone();
+            change(&mut s);
+            is_sound(&s)
+        };
+        assert!(with(&|s| s.marks = { let mut m = [0; 64]; m[0] = 1; m[1] = 2; m }));
+        assert!(!with(&|s| s.version = 3));
+        assert!(!with(&|s| s.first = 3));
+        assert!(!with(&|s| s.first = 65_535));
+        assert!(!with(&|s| s.size = 0));
+        assert!(!with(&|s| { s.first = 0; s.size = 3 }));
+        assert!(!with(&|s| s.marks[2] = 1));
+        assert!(!with(&|s| s.marks[63] = 2));
+        assert!(!with(&|s| s.marks[0] = 3));
+        assert!(!with(&|s| { s.kind = Kind::Read; s.marks[0] = 1 }));
+        assert!(with(&|s| s.kind = Kind::Read));
+        assert!(!with(&|s| s.kind = Kind::Closed));
+        assert!(!with(&|s| { s.kind = Kind::Closed; s.first = 0 }));
+        assert!(!with(&|s| { s.kind = Kind::Closed; s.size = 0 }));
+        assert!(with(&|s| { s.kind = Kind::Closed; s.size = 0; s.first = 0 }));
+        assert!(!with(&|s| { s.kind = Kind::Closed; s.size = 0; s.first = 0; s.marks[0] = 1 }));
+    }
+
+    // ---------------------------------------------------------------- bench
+
+    #[test]
+    fn bench_longest_input() {
+        assert_eq!(bench_text(&[2; 16_384]), EMPTY_FLASH);
+        assert_eq!(bench_text(&[2; 16_385]), "too long\n");
+        assert_eq!(bench_text(&[]), EMPTY_FLASH);
+    }
+
+    #[test]
+    fn bench_empty_command() {
+        let line = "00 00 00 00 00 00 00 00 00 00 00 00 00 02 00 81\n";
+        assert_eq!(bench_hex("00 00"), line.to_owned() + EMPTY_FLASH);
+        let twice = bench_hex("00 00 00 00");
+        assert_eq!(twice, line.repeat(2) + EMPTY_FLASH);
+    }
+
+    #[test]
+    fn bench_thirteen_registers() {
+        let text = bench_hex("00 0D 09 01 01 02 03 04 05 06 07 08 09 0A FF 01");
+        assert_eq!(text, "09 01 00 00 00 00 00 00 00 00 00 00 00 01 00 80\n".to_owned() + EMPTY_FLASH);
+    }
+
+    #[test]
+    fn bench_bad_records() {
+        let bad = [
+            "05",                            // an unknown kind
+            "80",                            // a number cut short
+            "80 00",                         // a longer form of 0
+            "82 00",                         // a longer form of 2
+            "82 80 00",                      // a longer form of 2
+            "00",                            // cut short
+            "00 0E 00 00 00 00 00 00 00 00 00 00 00 00 00 00", // count 14
+            "00 02 09",                      // too few values
+            "00 01 80 02",                   // a value of 256
+            "00 01 89 00",                   // a longer form of a value
+            "01 00 00",                      // a fill cut short
+            "80 80 80 80 10",                // 2^32
+            "FF FF FF FF 7F",                // above 2^32
+            "80 80 80 80 80 01",             // six groups
+            "FF FF FF FF 0F",                // an unknown kind, the largest number
+        ];
+        for text in bad {
+            assert_eq!(bench_hex(text), "bad input at 0\nflash 0 0 0 0\n", "{text}");
+            let later = bench_hex(&format!("02 03 {text}"));
+            assert_eq!(later, "bad input at 2\nflash 0 0 0 0\n", "{text}");
+        }
+    }
+
+    #[test]
+    fn bench_fill_sum_is_a_whole_number() {
+        let open = "00 03 02 01 02 00 06 06 02 00 00 02 00 ";
+        let ends = |rest: &str| bench_hex(&(open.to_owned() + rest));
+        let bad = "81\nbad input at 13\nflash 0 0 0 0\n";
+        assert!(ends("01 FF FF FF FF 0F 01 00").ends_with(bad));
+        assert!(ends("01 01 FF FF FF FF 0F 00").ends_with(bad));
+        assert!(ends("01 01 80 40 00").ends_with(bad));
+        assert!(ends("01 00 80 40 80 02").ends_with(bad));
+        let both = ends("01 00 80 40 00 00 06 07 03 00 00 02 00 00 02 05 04");
+        let closed = "05 04 00 00 00 00 00 00 00 00 00 00 00 01 00 81\nflash 4096 4096 0 0\n";
+        assert!(both.ends_with(closed));
+    }
+
+    #[test]
+    fn bench_bad_record_has_no_effect_and_ends_the_run() {
+        let open = "00 03 02 01 02 00 06 06 02 00 00 02 00 00 06 07 03 00 00 02 00 ";
+        let text = bench_hex(&(open.to_owned() + "01 00 81 40 00 00 02 05 04"));
+        assert!(text.ends_with("81\nbad input at 21\nflash 0 0 0 0\n"));
+        assert_eq!(text.lines().count(), 5);
+    }
+
+    #[test]
+    fn numbers_in_seven_bit_groups() {
+        let read = |bytes: &[u8]| Numbers { input: bytes, at: 0 }.any();
+        assert_eq!(read(&[0]), Some(0));
+        assert_eq!(read(&[0x7F]), Some(127));
+        assert_eq!(read(&[0x80, 1]), Some(128));
+        assert_eq!(read(&[0xAC, 2]), Some(300));
+        assert_eq!(read(&[0xFF, 0xFF, 0xFF, 0xFF, 0x0F]), Some(u32::MAX));
+        assert_eq!(read(&[0xFF, 0xFF, 0xFF, 0xFF, 0x1F]), None);
+        for n in [0, 1, 127, 128, 255, 16_383, 16_384, 2_097_151, 2_097_152, u32::MAX] {
+            assert_eq!(read(&written(n)), Some(n));
+        }
+    }
+
+    fn written(n: u32) -> Vec<u8> {
+        if n < 128 {
+            return vec![n as u8];
+        }
+        let mut bytes = vec![(n % 128) as u8 | 0x80];
+        bytes.extend(written(n / 128));
+        bytes
+    }
+
+    // ---------------------------------------------------------- random walks
+
+    struct Random(u64);
+
+    impl Random {
+        fn below(&mut self, n: u64) -> u64 {
+            self.0 = self.0.wrapping_mul(6364136223846793005).wrapping_add(1442695040888963407);
+            (self.0 >> 33) % n
+        }
+    }
+
+    fn random_registers(random: &mut Random) -> [u8; 16] {
+        let mut regs = [0; 16];
+        regs[0] = random.below(13) as u8;
+        regs[1] = random.below(4) as u8;
+        for (i, register) in regs.iter_mut().enumerate().skip(2) {
+            let most = if i == 5 { 24 } else { 5 };
+            let wild = random.below(40) == 0;
+            *register = random.below(if wild { 256 } else { most }) as u8;
+            if i % 2 == 1 && i != 5 && !wild {
+                *register = 0;
+            }
+        }
+        regs
+    }
+
+    /// A sound session stays sound; refusals keep everything; steps foretell
+    /// what a closing or flushing command makes of the flash.
+    #[test]
+    fn random_walks() {
+        let mut random = Random(20);
+        let mut codes = [0u32; 9];
+        for _ in 0..40 {
+            let mut rig = Rig::sized(0, 4, 3);
+            for _ in 0..150 {
+                match random.below(30) {
+                    0 => drop(suspend(&mut rig.s)),
+                    1..=3 => drop(resume(&mut rig.s)),
+                    4 => drop(resume_changed(&mut rig.s)),
+                    _ => codes[usize::from(walk_one(&mut rig, &mut random))] += 1,
+                }
+                assert!(sound_with_lpc(&rig.s, rig.flash.len(), rig.window.len(), rig.b));
+                let at = random.below(rig.window.len() as u64) as usize;
+                rig.window[at] = random.below(256) as u8;
+            }
+        }
+        for code in [1, 2, 5, 6, 7, 8] {
+            assert!(codes[code] > 0, "code {code} never came up");
+        }
+    }
+
+    fn walk_one(rig: &mut Rig, random: &mut Random) -> u8 {
+        let before = rig.clone();
+        let sent = random_registers(random);
+        let after = rig.raw(sent);
+        assert_eq!((after[0], after[1], after[14]), (sent[0], sent[1], sent[14]));
+        assert_eq!(after[15], rig.s.events);
+        assert_eq!(rig.s.previous, Some(sent[1]));
+        let mut stepped = before.clone();
+        let mut count = 0;
+        while stepped.step(count).1 {
+            count += 1;
+        }
+        if after[13] != SUCCESS {
+            assert_eq!(after[2..13], [0; 11]);
+        }
+        let closes = matches!(sent[0], CREATE_READ | CREATE_WRITE | CLOSE);
+        let create_refused = closes && after[13] == PARAM_ERROR && rig.s.kind != before.s.kind;
+        if closes && (after[13] == SUCCESS || create_refused) {
+            assert!(rig.flash == stepped.flash);
+            assert_eq!(u64::from(rig.actions), count);
+        } else if after[13] != SUCCESS {
+            let kept = Session { previous: Some(sent[1]), ..before.s };
+            assert_eq!(rig.s, kept);
+            assert!(rig.flash == before.flash && rig.window == before.window);
+            assert_eq!(rig.actions, 0);
+        }
+        after[13]
+    }
+}
