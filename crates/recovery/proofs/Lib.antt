@@ -1,3 +1,4 @@
 pub mod Demand
 mod FirstList
+pub mod Inhabited
 mod SecondList
