@@ -123,7 +123,8 @@ hint s registers = cond (ltb (s .version) 2) 0 (number 2 2 registers)
 abbrev pub sizeFor : ℕ → ℕ → ℕ → ℕ → ℕ
 sizeFor S C o n = cond (eqb n 0) (min C (S - o)) (min (min C (S - o)) n)
 
--- "The active window is closed first, flushed if it is a write window": what is left of it when a create is refused for its argument
+-- "flushed if it is a write window", and dropped: what CLOSE_WINDOW leaves, and a create that is refused for its argument. Without a write
+-- window a sound session has no marks, so that nothing is flushed
 abbrev pub closing : ℕ → Session → List ℕ → List ℕ → List ℕ → Outcome
 closing code s registers flash memory =
     record {

@@ -102,8 +102,8 @@ firstOf (row ∷ rows) = cond (row .test) (row .reason) (firstOf rows)
 unfoldable pub reasonFor : Board → Session → List ℕ → ℕ → ℕ → Reason
 reasonFor board s registers flash memory = firstOf (table board s registers flash memory)
 
--- the codes: 4 SYSTEM_ERROR, 8 SEQ_ERROR, 2 PARAM_ERROR, 6 BUSY, 7 WINDOW_ERROR, 1 SUCCESS; at versions 0 and 1 2 stands for 8, 5 for 6 and
--- 2 for 7
+-- the codes: 4 SYSTEM_ERROR, 8 SEQ_ERROR, 2 PARAM_ERROR, 6 BUSY, 7 WINDOW_ERROR, 1 SUCCESS; at versions 0 and 1
+-- code 2 stands for 8 and 5 for 6, at version 1 code 2 for 7 (version 0 does not know those commands)
 abbrev pub codeFor : ℕ → Reason → ℕ
 codeFor version Accepted = 1
 codeFor version System = 4

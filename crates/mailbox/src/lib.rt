@@ -122,7 +122,7 @@ fn refuse_numbered(session: Session, registers: [u8; 16], reason: Reason) -> Ans
     )
 }
 
-// A refusal for an argument: a create has closed its window already.
+// A refusal for an argument: a create closes its window all the same.
 fn refuse_argument(session: Session, registers: [u8; 16], flash: &mut [u8], memory: &[u8]) -> Answer
     ensures { λ r. ⌜ (r ≡ argumentRefused session registers (now (flash .entry)) (now (memory .entry)) .answer)
         × (now (flash .exit) ≡ argumentRefused session registers (now (flash .entry)) (now (memory .entry)) .flash) ⌝ }
