@@ -248,7 +248,8 @@ fn bench(r: &mut Random, program: &str) -> Result<(), String> {
             1 => {
                 put(&mut input, r.below(9000));
                 put(&mut input, if r.once_in(9) { r.next() >> 32 } else { r.below(4000) });
-                put(&mut input, r.below(if r.once_in(9) { 300 } else { 256 }));
+                let values = if r.once_in(9) { 300 } else { 256 };
+                put(&mut input, r.below(values));
             }
             _ => {}
         }

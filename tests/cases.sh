@@ -1,0 +1,18 @@
+#!/usr/bin/env bash
+# The cases of tests/compare/src/bin/cases.rs, run on the proved library and compared with tests/cases/SECTION.txt.
+#     tests/cases.sh          compares
+#     tests/cases.sh second   writes what the second implementation prints there, to be read against 01 before it is kept
+set -euo pipefail
+cd "$(dirname "$0")/.."
+rt staticlib board > target/staticlib.log 2>&1 || { cat target/staticlib.log; exit 1; }
+cargo build --release --offline --quiet --manifest-path tests/compare/Cargo.toml --target-dir target/cargo
+for section in refusals edges unsound suspensions cuts largest; do
+    stored=tests/cases/$section.txt
+    if [ "${1:-}" = second ]; then
+        target/cargo/release/cases second $section > "$stored"
+        continue
+    fi
+    target/cargo/release/cases ours $section > target/$section.txt
+    diff -u "$stored" target/$section.txt
+    echo "cases: $section, $(wc -l < "$stored") lines as stored"
+done

@@ -1,0 +1,339 @@
+//! Prints what a controller answers on a fixed set of cases, one section for each group of rules of 01.
+//!
+//! cases ours|second SECTION: the proved library or the second implementation. tests/cases.sh compares what both print with the stored
+//! tests/cases/SECTION.txt.
+
+use compare::{record_of, session_of};
+use second::{Kind, Session};
+
+const BLOCK: usize = 4096;
+const LPC: u16 = 16;
+const TIMEOUT: u16 = 8;
+
+/// Which of the two answers.
+#[derive(Clone, Copy)]
+enum Side {
+    Ours,
+    Second,
+}
+
+/// A session with its buffers.
+#[derive(Clone)]
+struct Machine {
+    side: Side,
+    session: Session,
+    lpc: u16,
+    flash: Vec<u8>,
+    memory: Vec<u8>,
+}
+
+impl Machine {
+    /// No two blocks are alike, and no byte of them is FF.
+    fn new(side: Side, flash: usize, memory: usize) -> Machine {
+        Machine { side, session: Session::fresh(), lpc: LPC, flash: pattern(flash, 0x10), memory: pattern(memory, 0x80) }
+    }
+
+    fn command(&mut self, mut registers: [u8; 16]) -> ([u8; 16], u32) {
+        match self.side {
+            Side::Ours => {
+                let mut record = record_of(&self.session);
+                let actions = compare::command(&mut record, &mut registers, self.lpc, TIMEOUT, &mut self.flash, &mut self.memory);
+                self.session = session_of(&record);
+                (registers, actions)
+            }
+            Side::Second => second::command(&mut self.session, registers, self.lpc, TIMEOUT, &mut self.flash, &mut self.memory),
+        }
+    }
+
+    /// A command with two-byte arguments, in order.
+    fn send(&mut self, code: u8, sequence: u8, arguments: &[u16]) -> ([u8; 16], u32) {
+        let mut registers = [0; 16];
+        registers[0] = code;
+        registers[1] = sequence;
+        for (i, argument) in arguments.iter().enumerate() {
+            registers[2 + 2 * i..4 + 2 * i].copy_from_slice(&argument.to_le_bytes());
+        }
+        self.command(registers)
+    }
+
+    fn step(&mut self, done: u64) -> (u8, bool) {
+        match self.side {
+            Side::Ours => compare::step(&record_of(&self.session), &mut self.flash, &mut self.memory, done),
+            Side::Second => second::step(&self.session, &mut self.flash, &self.memory, done),
+        }
+    }
+
+    fn access(&mut self, call: Access) -> bool {
+        let mut record = record_of(&self.session);
+        let ours = match call {
+            Access::Suspend => compare::suspend as fn(&mut compare::Record) -> bool,
+            Access::Resume => compare::resume,
+            Access::ResumeChanged => compare::resume_changed,
+        };
+        let theirs = match call {
+            Access::Suspend => second::suspend as fn(&mut Session) -> bool,
+            Access::Resume => second::resume,
+            Access::ResumeChanged => second::resume_changed,
+        };
+        match self.side {
+            Side::Ours => {
+                let done = ours(&mut record);
+                self.session = session_of(&record);
+                done
+            }
+            Side::Second => theirs(&mut self.session),
+        }
+    }
+}
+
+#[derive(Clone, Copy, Debug)]
+enum Access {
+    Suspend,
+    Resume,
+    ResumeChanged,
+}
+
+fn pattern(length: usize, base: u8) -> Vec<u8> {
+    (0..length).map(|i| base + (i / BLOCK % 16) as u8).collect()
+}
+
+fn hex(bytes: &[u8]) -> String {
+    bytes.iter().map(|b| format!("{b:02X}")).collect::<Vec<_>>().join(" ")
+}
+
+/// Four flash blocks and two window blocks, at this version, with a window at blocks 1 and 2.
+fn with_window(side: Side, version: u8, kind: Kind) -> Machine {
+    let mut m = Machine::new(side, 4 * BLOCK, 2 * BLOCK);
+    m.session.version = version;
+    m.session.previous = Some(9);
+    m.session.kind = kind;
+    if kind != Kind::Closed {
+        m.session.first = 1;
+        m.session.size = 2;
+    }
+    m
+}
+
+fn session_text(s: &Session) -> String {
+    let previous = s.previous.map_or("none".to_string(), |n| n.to_string());
+    let marks: Vec<String> = s.marks.iter().enumerate().filter(|(_, m)| **m != 0).map(|(i, m)| format!("{i}:{m}")).collect();
+    format!(
+        "version {} previous {previous} events {:02X} suspended {} window {:?} {}+{} marks {}",
+        s.version, s.events, s.suspended, s.kind, s.first, s.size, if marks.is_empty() { "none".into() } else { marks.join(" ") }
+    )
+}
+
+/// Every command from 0 to 11 and 255, at each version, with each window, suspended and not: the response code, and `~` where the session,
+/// the flash or the window memory changed in more than the previous number.
+fn refusals(side: Side) {
+    println!("commands 0 to 11 and 255; ~ where more than the previous number changed");
+    for version in 0..3 {
+        for kind in [Kind::Closed, Kind::Read, Kind::Write] {
+            for suspended in [false, true] {
+                for (name, sequence, argument) in [("new number", 1, 1), ("same number", 9, 1), ("bad arguments", 1, 9)] {
+                    let codes: Vec<String> = (0..12).chain([255]).map(|code| refusal(side, (version, kind, suspended), code, sequence, argument)).collect();
+                    println!("version {version} window {kind:?} suspended {suspended}, {name}: {}", codes.join(" "));
+                }
+            }
+        }
+    }
+}
+
+fn refusal(side: Side, (version, kind, suspended): (u8, Kind, bool), code: u8, sequence: u8, argument: u16) -> String {
+    let mut m = with_window(side, version, kind);
+    m.session.suspended = suspended;
+    if kind == Kind::Write {
+        m.session.marks[1] = 1;
+    }
+    // GET_INFO refuses only 0; the others get a block outside or inside the window
+    let first = if code == 2 { argument % 9 } else { argument };
+    let before = m.clone();
+    let (registers, actions) = m.send(code, sequence, &[first, 1]);
+    let mut aside = m.session.clone();
+    aside.previous = before.session.previous;
+    let changed = aside != before.session || m.flash != before.flash || m.memory != before.memory || actions != 0;
+    format!("{}{}", registers[13], if changed { "~" } else { "" })
+}
+
+fn print_command(m: &mut Machine, code: u8, arguments: &[u16]) {
+    let (registers, actions) = m.send(code, 1, arguments);
+    println!("  {code} {arguments:?}: {} actions {actions}; {}", hex(&registers), session_text(&m.session));
+}
+
+/// Each command at its edges, each on a session of its own.
+fn edges(side: Side) {
+    for version in 0..3 {
+        println!("version {version}, window 1 to 2 of 4 blocks, window memory of 2, the second window block dirty");
+        let mut cases: Vec<(u8, Vec<u16>)> = vec![(1, vec![])];
+        cases.extend([0, 1, 2, 3, 255, 256].map(|r| (2, vec![r])));
+        cases.push((3, vec![]));
+        for code in [4, 6] {
+            for (first, hint) in [(0, 0), (0, 1), (0, 2), (0, 3), (0, 65535), (2, 0), (3, 0), (3, 2), (4, 0), (4, 1), (65535, 65535)] {
+                cases.push((code, vec![first, hint]));
+            }
+        }
+        cases.push((5, vec![1]));
+        cases.extend(ranges(version).into_iter().flat_map(|range| [7, 8, 10].map(|code| (code, range.clone()))));
+        cases.extend([0, 1, 0x80, 0xff].map(|bits| (9, vec![bits])));
+        for (code, arguments) in cases {
+            let mut m = with_window(side, version, Kind::Write);
+            m.session.marks[1] = 1;
+            print_command(&mut m, code, &arguments);
+        }
+    }
+}
+
+/// Ranges for MARK_DIRTY, FLUSH and ERASE: of flash block and bytes at version 1, of window block and blocks otherwise.
+fn ranges(version: u8) -> Vec<Vec<u16>> {
+    if version != 1 {
+        return [[0, 0], [0, 1], [0, 2], [0, 3], [1, 1], [1, 2], [2, 0], [2, 1], [3, 0], [65535, 1], [65535, 2], [1, 65535]].map(|r| r.to_vec()).to_vec();
+    }
+    let lengths = [0u32, 1, 4095, 4096, 4097, 8192, 8193, 12288, 0xffff_f000, 0xffff_f001, 0xffff_ffff];
+    let mut all = Vec::new();
+    for first in [0u16, 1, 2, 3, 4, 65535] {
+        for length in lengths {
+            all.push(vec![first, length as u16, (length >> 16) as u16]);
+        }
+    }
+    all
+}
+
+/// Records and sizes that break the numbers: the code of GET_INFO and of a step, and whether all stayed.
+fn unsound(side: Side) {
+    let changes: [(&str, fn(&mut Machine)); 17] = [
+        ("nothing", |_| {}),
+        ("version 3", |m| m.session.version = 3),
+        ("version 255", |m| m.session.version = 255),
+        ("no window with a first block", |m| { m.session.kind = Kind::Closed; m.session.size = 0 }),
+        ("no window with a size", |m| { m.session.kind = Kind::Closed; m.session.first = 0 }),
+        ("a window of size 0", |m| m.session.size = 0),
+        ("a window larger than the memory", |m| m.session.size = 3),
+        ("a window that ends at the end", |m| m.session.first = 2),
+        ("a window that ends past the end", |m| m.session.first = 3),
+        ("a window at the last number", |m| m.session.first = 65535),
+        ("mark 3", |m| m.session.marks[0] = 3),
+        ("mark 255 past the window", |m| m.session.marks[63] = 255),
+        ("a mark past the window", |m| m.session.marks[2] = 1),
+        ("a mark in a read window", |m| { m.session.kind = Kind::Read; m.session.marks[0] = 2 }),
+        ("B + C = 65,536", |m| m.lpc = 65534),
+        ("B + C = 65,537", |m| m.lpc = 65535),
+        ("suspended", |m| m.session.suspended = true),
+    ];
+    for (name, change) in changes {
+        let mut m = with_window(side, 2, Kind::Write);
+        change(&mut m);
+        print_soundness(name, m);
+    }
+    for flash in [0, 1, BLOCK - 1, BLOCK, BLOCK + 1, 65535 * BLOCK, 65535 * BLOCK + 1, 65536 * BLOCK] {
+        print_soundness(&format!("flash of {flash} bytes"), Machine { flash: vec![0; flash], ..Machine::new(side, 0, BLOCK) });
+    }
+    for memory in [0, 1, BLOCK - 1, BLOCK, BLOCK + 1, 64 * BLOCK, 64 * BLOCK + 1, 65 * BLOCK] {
+        print_soundness(&format!("window memory of {memory} bytes"), Machine::new(side, BLOCK, memory));
+    }
+}
+
+fn print_soundness(name: &str, mut m: Machine) {
+    let before = (m.session.clone(), m.memory.clone());
+    let (code, acted) = m.step(0);
+    let (registers, _) = m.send(2, 3, &[1]);
+    let kept = m.session == before.0 && m.memory == before.1;
+    println!("{name}: step {code} {acted}, GET_INFO {}, session kept {kept}", registers[13]);
+}
+
+/// Suspend and resume, twice each, with each window and two event bytes, on sound and unsound sessions.
+fn suspensions(side: Side) {
+    for kind in [Kind::Closed, Kind::Read, Kind::Write] {
+        for (events, version) in [(0x81, 2), (0xff, 1), (0x00, 77)] {
+            for last in [Access::Resume, Access::ResumeChanged] {
+                let mut m = with_window(side, version, kind);
+                m.session.events = events;
+                m.session.marks[0] = u8::from(kind == Kind::Write);
+                for call in [last, Access::Suspend, Access::Suspend, last, last] {
+                    let done = m.access(call);
+                    println!("{call:?} {done}: {}", session_text(&m.session));
+                }
+            }
+        }
+    }
+}
+
+/// For each block: how many bytes are old, FF, new and other.
+fn blocks_text(flash: &[u8], old: &[u8], memory: &[u8], first: usize) -> String {
+    let blocks = flash.chunks(BLOCK).enumerate().map(|(b, block)| {
+        let mut counts = [0; 4];
+        for (i, byte) in block.iter().enumerate() {
+            let at = b * BLOCK + i;
+            let new = at.checked_sub(first * BLOCK).and_then(|w| memory.get(w)).copied();
+            counts[if *byte == old[at] { 0 } else if *byte == 0xff { 1 } else if Some(*byte) == new { 2 } else { 3 }] += 1;
+        }
+        format!("{}/{}/{}/{}", counts[0], counts[1], counts[2], counts[3])
+    });
+    blocks.collect::<Vec<_>>().join(" ")
+}
+
+/// A flush of marks dirty, clean, erased, dirty, cut at every action, and the second run after it.
+fn cuts(side: Side) {
+    println!("window 1 to 4 of 6 blocks, marks 1 0 2 1; for each block the bytes old/FF/new/other after the cut");
+    let mut start = Machine::new(side, 6 * BLOCK, 4 * BLOCK);
+    start.session = Session { version: 2, kind: Kind::Write, first: 1, size: 4, ..Session::fresh() };
+    start.session.marks[..4].copy_from_slice(&[1, 0, 2, 1]);
+    let mut whole = start.clone();
+    let (registers, n) = whole.send(8, 1, &[]);
+    println!("whole flush: {} actions {n}; {}", hex(&registers), blocks_text(&whole.flash, &start.flash, &start.memory, 1));
+    for cut in 0..=u64::from(n) + 1 {
+        let mut m = start.clone();
+        let acted = (0..cut).filter(|j| m.step(*j).1).count();
+        let flash = m.flash.clone();
+        let answer = m.step(cut);
+        let kept = m.session == start.session && m.memory == start.memory;
+        let after = blocks_text(&flash, &start.flash, &start.memory, 1);
+        let again = second_run(Machine { flash, ..m }, &start, &whole);
+        println!("cut after {cut}: {acted} done, next {answer:?}, kept {kept}; {after}; second run {again}");
+    }
+}
+
+/// Opens the same window on this flash with a fresh session and another window memory, marks and writes the same, and flushes.
+fn second_run(mut m: Machine, start: &Machine, whole: &Machine) -> String {
+    m.session = Session::fresh();
+    m.memory = vec![0x33; start.memory.len()];
+    let calls: [(u8, &[u16]); 6] = [(2, &[2]), (6, &[1, 4]), (10, &[0, 1]), (7, &[0, 1]), (7, &[2, 2]), (10, &[2, 1])];
+    let mut codes: Vec<u8> = (1..).zip(calls).map(|(sequence, (code, arguments))| m.send(code, sequence, arguments).0[13]).collect();
+    for block in [0, 3] {
+        m.memory[block * BLOCK..(block + 1) * BLOCK].copy_from_slice(&start.memory[block * BLOCK..(block + 1) * BLOCK]);
+    }
+    let (registers, actions) = m.send(8, 7, &[]);
+    codes.push(registers[13]);
+    format!("{codes:?} actions {actions}, as the whole flush {}", m.flash == whole.flash)
+}
+
+/// The largest chip at version 1: sizes in bytes, and its last block.
+fn largest(side: Side) {
+    let mut m = Machine { flash: vec![0x11; 65535 * BLOCK], ..Machine::new(side, 0, 64 * BLOCK) };
+    for (code, arguments) in [(2, vec![1]), (3, vec![]), (6, vec![65534]), (7, vec![65534, 4096, 0]), (7, vec![65535, 0, 0])] {
+        m.session.previous = None;
+        print_command(&mut m, code, &arguments);
+    }
+    m.memory[..BLOCK].fill(0x22);
+    m.session.previous = None;
+    print_command(&mut m, 8, &[]);
+    let last = m.flash.iter().rposition(|b| *b == 0x11).unwrap();
+    println!("new bytes: {}, the last old byte is {last}", m.flash.iter().filter(|b| **b == 0x22).count());
+}
+
+fn main() {
+    let arguments: Vec<String> = std::env::args().skip(1).collect();
+    let side = match arguments.first().map(String::as_str) {
+        Some("ours") => Side::Ours,
+        Some("second") => Side::Second,
+        _ => panic!("cases ours|second SECTION"),
+    };
+    match arguments.get(1).map(String::as_str) {
+        Some("refusals") => refusals(side),
+        Some("edges") => edges(side),
+        Some("unsound") => unsound(side),
+        Some("suspensions") => suspensions(side),
+        Some("cuts") => cuts(side),
+        Some("largest") => largest(side),
+        _ => panic!("no such section"),
+    }
+}
