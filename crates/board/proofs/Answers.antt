@@ -1,0 +1,118 @@
+-- What the calls over a record rest on: the way there and back, a refused record, and an answer yes or no.
+use mathlib.Core.Path.{_≡_, refl, sym, ap, _∙_}
+use mathlib.Core.Bool.{Bool, true, false, cond, not, _&&_}
+use mathlib.Core.List.{List}
+use Prim.Native.Nat.{ℕ, zero, suc, _<_, _≤_}
+use native.Mathlib.Omega.{arith}
+use lib.ListN.{length}
+use borrow.Author.Tests.{le-leb, lt-leb, not-true, not-false}
+use Rattle.session.specs.declared.Session.{Session}
+use Rattle.session.specs.declared.Window.{Window}
+use Rattle.session.specs.declared.Window.the-variants.{Closed, Read, Write}
+use Rattle.session.specs.declared.Previous.{Previous}
+use Rattle.session.specs.declared.Previous.the-variants.{Absent, Number}
+use Rattle.session.specs.declared.suspension.Suspension.{Suspension}
+use Rattle.session.specs.Soundness.{sizesSound, sessionSound, sound, soundAt}
+use Rattle.flush.specs.Window.{advanced}
+use Rattle.mailbox.specs.declared.Board.{Board}
+use Rattle.mailbox.specs.declared.refusals.Reason.the-variants.{System}
+use Rattle.mailbox.specs.Refusals.{reasonFor}
+use Rattle.mailbox.specs.Commands.{withVersion}
+use Rattle.mailbox.specs.Mediator.{mediate, answerTo, refused}
+use Rattle.mailbox.proofs.Accepting.{mediate-as}
+use Rattle.board.specs.declared.Record.{Record}
+use Rattle.board.specs.Record.{windowOf, windowNumber, previousOf, isNumbered, numberOr, sessionOf, recordOf}
+use Rattle.board.specs.Calls.{kept, commanded, systemError, answerOf, steppedRecord}
+
+-- ---- a session of version 3 is refused with SYSTEM_ERROR
+
+and-false : (b : Bool) → b && false ≡ false
+and-false true = refl
+and-false false = refl
+
+unsound : (lpc flash memory : ℕ) (s : Session) → soundAt lpc flash memory (withVersion 3 s) ≡ false
+unfolding soundAt sound sessionSound
+unsound lpc flash memory s = rw (and-false (sizesSound flash memory)) refl
+
+system : (board : Board) (s : Session) (registers : List ℕ) (flash memory : ℕ) → reasonFor board (withVersion 3 s) registers flash memory ≡ System
+unfolding reasonFor
+system board s registers flash memory = rw (unsound (board .lpc) flash memory s) refl
+
+pub three-refused : (board : Board) (s : Session) (registers flash memory : List ℕ)
+    → mediate board (withVersion 3 s) registers flash memory ≡ refused 4 (withVersion 3 s) registers flash memory
+unfolding answerTo
+three-refused board s registers flash memory =
+    mediate-as board (withVersion 3 s) registers flash memory System (system board s registers (length flash) (length memory))
+
+-- ---- an answer yes or no
+
+module _ (f : Session → Suspension) (after : Suspension → Record) (h : Record) (s : Session) (a : Suspension) (p : s ≡ sessionOf h) (q : a ≡ f s) where
+  called : a ≡ f (sessionOf h)
+  called = q ∙ ap f p
+
+  pub answers-no : not (a .done) ≡ true → record { done = false; held = h } ≡ answerOf (f (sessionOf h) .done) h (after (f (sessionOf h)))
+  answers-no e =
+      sym (ap (λ (b : Bool). answerOf b h (after (f (sessionOf h)))) (ap (λ (y : Suspension). y .done) (sym called) ∙ not-true (a .done) e))
+
+  pub answers-yes : not (a .done) ≡ false → record { done = true; held = after a } ≡ answerOf (f (sessionOf h) .done) h (after (f (sessionOf h)))
+  answers-yes e =
+      ap (λ (y : Suspension). record { done = true; held = after y }) called
+      ∙ sym (ap (λ (b : Bool). answerOf b h (after (f (sessionOf h)))) (ap (λ (y : Suspension). y .done) (sym called) ∙ not-false (a .done) e))
+
+-- ---- a window number above 2, and one up to 2
+
+pub commanded-above : (lpc timeout : ℕ) (h : Record) (registers flash memory : List ℕ) → 2 < h .window
+    → commanded lpc timeout h registers flash memory ≡ systemError h registers flash memory
+unfolding commanded
+commanded-above lpc timeout h registers flash memory e =
+    ap (λ (b : Bool). cond b (kept (h .previous) (mediate (record { lpc = lpc; timeout = timeout }) (sessionOf h) registers flash memory)) (systemError h registers flash memory)) (lt-leb (h .window) 2 e)
+
+pub commanded-within : (lpc timeout : ℕ) (h : Record) (registers flash memory : List ℕ) → h .window ≤ 2
+    → commanded lpc timeout h registers flash memory ≡ kept (h .previous) (mediate (record { lpc = lpc; timeout = timeout }) (sessionOf h) registers flash memory)
+unfolding commanded
+commanded-within lpc timeout h registers flash memory e =
+    ap (λ (b : Bool). cond b (kept (h .previous) (mediate (record { lpc = lpc; timeout = timeout }) (sessionOf h) registers flash memory)) (systemError h registers flash memory)) (le-leb (h .window) 2 e)
+
+pub stepped-above : (h : Record) (memory : List ℕ) (done : ℕ) (flash : List ℕ) → 2 < h .window
+    → steppedRecord h memory done flash ≡ record { code = 4; yes = false; flash = flash }
+stepped-above h memory done flash e =
+    ap (λ (b : Bool). cond b (advanced (sessionOf h) memory done flash) (record { code = 4; yes = false; flash = flash })) (lt-leb (h .window) 2 e)
+
+pub stepped-within : (h : Record) (memory : List ℕ) (done : ℕ) (flash : List ℕ) → h .window ≤ 2
+    → steppedRecord h memory done flash ≡ advanced (sessionOf h) memory done flash
+stepped-within h memory done flash e =
+    ap (λ (b : Bool). cond b (advanced (sessionOf h) memory done flash) (record { code = 4; yes = false; flash = flash })) (le-leb (h .window) 2 e)
+
+-- ---- the way there and back loses nothing
+
+windows-back : (w : Window) → windowOf (windowNumber w) ≡ w
+windows-back Closed = refl
+windows-back Read = refl
+windows-back Write = refl
+
+previous-back : (spare : ℕ) (p : Previous) → previousOf (isNumbered p) (numberOr spare p) ≡ p
+previous-back spare Absent = refl
+previous-back spare (Number n) = refl
+
+-- the session of a session's record is that session
+pub session-back : (spare : ℕ) (s : Session) → sessionOf (recordOf spare s) ≡ s
+session-back spare s = rw (windows-back (s .window), previous-back spare (s .previous)) refl
+
+numbers-back : (n : ℕ) → n ≤ 2 → windowNumber (windowOf n) ≡ n
+numbers-back zero e = refl
+numbers-back (suc zero) e = refl
+numbers-back (suc (suc zero)) e = refl
+numbers-back (suc (suc (suc n))) e = absurd (omega arith)
+
+numbered-back : (b : Bool) (n : ℕ) → isNumbered (previousOf b n) ≡ b
+numbered-back true n = refl
+numbered-back false n = refl
+
+number-back : (b : Bool) (n : ℕ) → numberOr n (previousOf b n) ≡ n
+number-back true n = refl
+number-back false n = refl
+
+-- the record of a record's session is that record, where its window number is a window's
+pub record-back : (h : Record) → h .window ≤ 2 → recordOf (h .previous) (sessionOf h) ≡ h
+record-back h e =
+    rw (numbers-back (h .window) e, numbered-back (h .numbered) (h .previous), number-back (h .numbered) (h .previous)) refl

@@ -1,0 +1,56 @@
+// The board's boundary: the record that C keeps for a session, and the functions that C links.
+//
+// Every record, every content of the registers and every buffer length gets an answer. References that C
+// lends must be valid and must not overlap, and each bool byte is 0 or 1: include/hiomap.h.
+mod access;
+mod convert;
+mod serving;
+
+pub use access::hiomap_resume;
+pub use access::hiomap_resume_changed;
+pub use access::hiomap_step;
+pub use access::hiomap_suspend;
+use convert::record_of;
+pub use serving::hiomap_command;
+use session::new_session;
+ghost use mathlib.Core.Path.{_≡_};
+ghost use Rattle.board.specs.Record.{recordOf};
+ghost use Rattle.session.specs.Record.{fresh};
+
+// A session as C keeps it.
+#[repr(C)]
+pub struct Record {
+    pub version: u8,
+    // Whether there is a previous sequence number, and that number.
+    pub numbered: bool,
+    pub previous: u8,
+    pub events: u8,
+    pub suspended: bool,
+    // 0 none, 1 read, 2 write.
+    pub window: u8,
+    pub first: u16,
+    pub size: u16,
+    pub marks: [u8; 64],
+}
+
+// The answer yes or no, and the record afterwards.
+#[repr(C)]
+pub struct Suspended {
+    pub done: bool,
+    pub held: Record,
+}
+
+// What a step answers: its code, and whether it did an action.
+#[repr(C)]
+pub struct Stepped {
+    pub code: u8,
+    pub acted: bool,
+}
+
+// A fresh session.
+#[no_mangle]
+pub extern "C" fn hiomap_fresh() -> Record
+    ensures { λ r. ⌜ r ≡ recordOf 0 fresh ⌝ }
+{
+    record_of(new_session(), 0)
+}

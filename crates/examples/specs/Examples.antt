@@ -1,0 +1,411 @@
+-- The twelve examples of document 01 as data, and what it is for one to hold: its calls are made on the definitions, each on what the one
+-- before left, and what each leaves passes the checks that 01's words ask for.
+use Prim.Native.Nat.{ℕ, zero, suc, _-_}
+use mathlib.Core.Bool.{Bool, true, false, cond, _&&_}
+use mathlib.Core.List.{List, [], _∷_, _++_}
+use lib.Dec.{eqb}
+use lib.ListN.{getD, take, replicate}
+use Rattle.units.specs.Units.{blockBytes}
+use Rattle.buffers.specs.Ranges.{range, replace}
+use Rattle.chip.specs.Actions.{pageBytes}
+use Rattle.session.specs.declared.Session.{Session}
+use Rattle.session.specs.declared.Window.{Window}
+use Rattle.session.specs.declared.Window.the-variants.{Closed, Read, Write}
+use Rattle.session.specs.Record.{fresh}
+use Rattle.session.specs.Suspension.{suspended}
+use Rattle.flush.specs.Actions.{Action, program, perform}
+use Rattle.flush.specs.Window.{Advanced, advanced}
+use Rattle.mailbox.specs.declared.Board.{Board}
+use Rattle.mailbox.specs.Commands.{Outcome}
+use Rattle.mailbox.specs.Mediator.{mediate}
+
+-- ---- what an example is
+
+-- what a call is given and leaves, with the answer of the last command or step
+pub record State : Type 0 where
+  pub session : Session
+  pub flash : List ℕ
+  pub memory : List ℕ
+  pub code : ℕ
+  pub arguments : List ℕ
+  pub actions : ℕ
+
+-- a call makes one state of another
+abbrev pub Call : Type 0
+Call = State → State
+
+-- a check looks at a state
+abbrev pub Check : Type 0
+Check = State → Bool
+
+infix 68 _shows_
+-- a call, and the checks of what it leaves
+pub data Line : Type 0 where
+  _shows_ : Call → List Check → Line
+
+-- an example: where it starts, and its calls in order
+pub record Example : Type 0 where
+  pub start : State
+  pub lines : List Line
+
+-- the test holds of every element
+abbrev pub every : {A : Type 0} → (A → Bool) → List A → Bool
+every test [] = true
+every test (x ∷ xs) = test x && every test xs
+
+-- from this state on all checks of all lines pass, where each call is given what the one before left
+abbrev pub passes : State → List Line → Bool
+passes s [] = true
+passes s ((call shows checks) ∷ lines) = let next = call s in every (λ check. check next) checks && passes next lines
+
+-- an example holds
+abbrev pub holds : Example → Bool
+holds example = passes (example .start) (example .lines)
+
+-- ---- where the examples start
+
+-- "B = 16"; T = 8, as in the bench program
+abbrev pub board : Board
+board = record { lpc = 16; timeout = 8 }
+
+-- for each value a block that is filled with it
+abbrev pub blocks : List ℕ → List ℕ
+blocks [] = []
+blocks (value ∷ values) = replicate blockBytes value ++ blocks values
+
+-- a fresh session with this flash and window memory
+abbrev pub freshWith : List ℕ → List ℕ → State
+freshWith flash memory =
+    record {
+      session = fresh;
+      flash = flash;
+      memory = memory;
+      code = 0;
+      arguments = [];
+      actions = 0;
+    }
+
+-- "S = 4, C = 2"; no two blocks are alike
+abbrev pub start : State
+start = freshWith (blocks (0xa0 ∷ 0xa1 ∷ 0xa2 ∷ 0xa3 ∷ [])) (blocks (0xb0 ∷ 0xb1 ∷ []))
+
+-- ---- the calls
+
+-- so many numbers, 0 where the list has ended
+abbrev pub padded : ℕ → List ℕ → List ℕ
+padded n xs = take n (xs ++ replicate n 0)
+
+-- the state that a command leaves
+abbrev pub replied : Outcome → State
+replied o =
+    record {
+      session = o .answer .session;
+      flash = o .flash;
+      memory = o .memory;
+      code = getD (o .answer .registers) 13 0;
+      arguments = range 2 11 (o .answer .registers);
+      actions = o .answer .actions;
+    }
+
+-- a mailbox command, from register 0 on: the command (2 GET_INFO, 4 and 6 create a read or write window, 7 MARK_DIRTY, 8 FLUSH, 10 ERASE),
+-- the sequence, the arguments; registers that are not given are 0
+abbrev pub command : List ℕ → Call
+command registers s = replied (mediate board (s .session) (padded 16 registers) (s .flash) (s .memory))
+
+-- the state that a step leaves; its yes is one action, its no none
+abbrev pub stepped : Advanced → State → State
+stepped a s =
+    record {
+      session = s .session;
+      flash = a .flash;
+      memory = s .memory;
+      code = a .code;
+      arguments = [];
+      actions = cond (a .yes) 1 0;
+    }
+
+-- the flush advanced by one action, when so many are done
+abbrev pub step : ℕ → Call
+step done s = stepped (advanced (s .session) (s .memory) done (s .flash)) s
+
+-- the state with another session, flash and window memory
+abbrev pub changed : Session → List ℕ → List ℕ → State → State
+changed session flash memory s =
+    record {
+      session = session;
+      flash = flash;
+      memory = memory;
+      code = s .code;
+      arguments = s .arguments;
+      actions = s .actions;
+    }
+
+-- flash access is suspended
+abbrev pub suspend : Call
+suspend s = changed (suspended (s .session) .session) (s .flash) (s .memory) s
+
+-- the host writes these bytes to the front of window memory
+abbrev pub write : List ℕ → Call
+write bytes s = changed (s .session) (s .flash) (replace 0 bytes (s .memory)) s
+
+-- a chip action by itself
+abbrev pub act : Action → Call
+act action s = changed (s .session) (perform (s .memory) action (s .flash)) (s .memory) s
+
+-- ---- the checks
+
+-- two lists of numbers are equal
+abbrev pub same : List ℕ → List ℕ → Bool
+same [] [] = true
+same [] (y ∷ ys) = false
+same (x ∷ xs) [] = false
+same (x ∷ xs) (y ∷ ys) = eqb x y && same xs ys
+
+-- the response of a command (register 13), or the code of a step
+abbrev pub code : ℕ → Check
+code n s = eqb (s .code) n
+
+-- "2 to 12 hold the response's arguments and otherwise zero"
+abbrev pub arguments : List ℕ → Check
+arguments expected s = same (s .arguments) (padded 11 expected)
+
+-- "A refusal has zero arguments"
+abbrev pub refused : ℕ → Check
+refused n s = code n s && arguments [] s
+
+-- the number of chip actions
+abbrev pub actions : ℕ → Check
+actions n s = eqb (s .actions) n
+
+-- the agreed version
+abbrev pub version : ℕ → Check
+version n s = eqb (s .session .version) n
+
+-- a number for each kind of window
+abbrev pub kind : Window → ℕ
+kind Closed = 0
+kind Read = 1
+kind Write = 2
+
+-- "the window (none, read or write, first flash block, size)"
+abbrev pub window : Window → ℕ → ℕ → Check
+window expected first size s =
+    eqb (kind (s .session .window)) (kind expected) && (eqb (s .session .first) first && eqb (s .session .size) size)
+
+-- the 64 marks: these, and 0 behind them
+abbrev pub marks : List ℕ → Check
+marks expected s = same (s .session .marks) (padded 64 expected)
+
+-- every byte of the flash
+abbrev pub flash : List ℕ → Check
+flash expected s = same (s .flash) expected
+
+-- every byte of the window memory
+abbrev pub memory : List ℕ → Check
+memory expected s = same (s .memory) expected
+
+-- ---- the twelve: "S = 4, C = 2, B = 16, version 2 unless said"
+
+-- "1. GET_INFO r = 0 refused; 1 gives 1; 255 gives 2."
+abbrev pub example1 : Example
+example1 =
+    record {
+      start = start;
+      lines =
+          command (2 ∷ 1 ∷ 0 ∷ []) shows (refused 2 ∷ version 0 ∷ [])
+          ∷ command (2 ∷ 2 ∷ 2 ∷ []) shows (code 1 ∷ version 2 ∷ [])
+          ∷ command (2 ∷ 3 ∷ 0 ∷ []) shows (refused 2 ∷ version 2 ∷ [])
+          ∷ command (2 ∷ 4 ∷ 1 ∷ []) shows (code 1 ∷ arguments (1 ∷ 2 ∷ 0 ∷ 2 ∷ 0 ∷ []) ∷ version 1 ∷ [])
+          ∷ command (2 ∷ 5 ∷ 255 ∷ []) shows (code 1 ∷ arguments (2 ∷ 0 ∷ 0 ∷ 0 ∷ 0 ∷ 12 ∷ 8 ∷ 0 ∷ []) ∷ version 2 ∷ [])
+          ∷ [];
+    }
+
+-- "2. Create at 3: size 1. At 4: refused, no window.": of both kinds
+abbrev pub example2 : Example
+example2 =
+    record {
+      start = start;
+      lines =
+          command (2 ∷ 1 ∷ 2 ∷ []) shows (version 2 ∷ [])
+          ∷ command (4 ∷ 2 ∷ 3 ∷ 0 ∷ []) shows (code 1 ∷ arguments (16 ∷ 0 ∷ 1 ∷ 0 ∷ 3 ∷ 0 ∷ []) ∷ window Read 3 1 ∷ [])
+          ∷ command (4 ∷ 3 ∷ 4 ∷ 0 ∷ []) shows (refused 2 ∷ window Closed 0 0 ∷ memory (blocks (0xa3 ∷ 0xb1 ∷ [])) ∷ [])
+          ∷ command (6 ∷ 4 ∷ 3 ∷ 0 ∷ []) shows (code 1 ∷ arguments (16 ∷ 0 ∷ 1 ∷ 0 ∷ 3 ∷ 0 ∷ []) ∷ window Write 3 1 ∷ [])
+          ∷ command (6 ∷ 5 ∷ 4 ∷ 0 ∷ []) shows (refused 2 ∷ window Closed 0 0 ∷ memory (blocks (0xa3 ∷ 0xb1 ∷ [])) ∷ [])
+          ∷ [];
+    }
+
+-- "3. Create at 0: n = 0 gives 2, n = 1 gives 1, n = 65,535 gives 2.": of both kinds
+abbrev pub example3 : Example
+example3 =
+    record {
+      start = start;
+      lines =
+          command (2 ∷ 1 ∷ 2 ∷ []) shows (version 2 ∷ [])
+          ∷ command (4 ∷ 2 ∷ 0 ∷ 0 ∷ 0 ∷ 0 ∷ []) shows (code 1 ∷ arguments (16 ∷ 0 ∷ 2 ∷ 0 ∷ 0 ∷ 0 ∷ []) ∷ window Read 0 2 ∷ [])
+          ∷ command (4 ∷ 3 ∷ 0 ∷ 0 ∷ 1 ∷ 0 ∷ []) shows (code 1 ∷ arguments (16 ∷ 0 ∷ 1 ∷ 0 ∷ 0 ∷ 0 ∷ []) ∷ window Read 0 1 ∷ [])
+          ∷ command (4 ∷ 4 ∷ 0 ∷ 0 ∷ 255 ∷ 255 ∷ []) shows (code 1 ∷ arguments (16 ∷ 0 ∷ 2 ∷ 0 ∷ 0 ∷ 0 ∷ []) ∷ window Read 0 2 ∷ [])
+          ∷ command (6 ∷ 5 ∷ 0 ∷ 0 ∷ 0 ∷ 0 ∷ []) shows (code 1 ∷ arguments (16 ∷ 0 ∷ 2 ∷ 0 ∷ 0 ∷ 0 ∷ []) ∷ window Write 0 2 ∷ [])
+          ∷ command (6 ∷ 6 ∷ 0 ∷ 0 ∷ 1 ∷ 0 ∷ []) shows (code 1 ∷ arguments (16 ∷ 0 ∷ 1 ∷ 0 ∷ 0 ∷ 0 ∷ []) ∷ window Write 0 1 ∷ [])
+          ∷ command (6 ∷ 7 ∷ 0 ∷ 0 ∷ 255 ∷ 255 ∷ []) shows (code 1 ∷ arguments (16 ∷ 0 ∷ 2 ∷ 0 ∷ 0 ∷ 0 ∷ []) ∷ window Write 0 2 ∷ [])
+          ∷ [];
+    }
+
+-- "4. Write window, size 2: w = 65,535, k = 2: PARAM_ERROR.": by MARK_DIRTY and by ERASE
+abbrev pub example4 : Example
+example4 =
+    record {
+      start = start;
+      lines =
+          command (2 ∷ 1 ∷ 2 ∷ []) shows (version 2 ∷ [])
+          ∷ command (6 ∷ 2 ∷ 0 ∷ 0 ∷ []) shows (window Write 0 2 ∷ [])
+          ∷ command (7 ∷ 3 ∷ 255 ∷ 255 ∷ 2 ∷ 0 ∷ []) shows (refused 2 ∷ marks [] ∷ [])
+          ∷ command (10 ∷ 4 ∷ 255 ∷ 255 ∷ 2 ∷ 0 ∷ []) shows (refused 2 ∷ marks [] ∷ memory (blocks (0xa0 ∷ 0xa1 ∷ [])) ∷ [])
+          ∷ [];
+    }
+
+-- "5. There: w = 2, k = 0 succeeds; w = 3, k = 0 refused.": by MARK_DIRTY and by ERASE
+abbrev pub example5 : Example
+example5 =
+    record {
+      start = start;
+      lines =
+          command (2 ∷ 1 ∷ 2 ∷ []) shows (version 2 ∷ [])
+          ∷ command (6 ∷ 2 ∷ 0 ∷ 0 ∷ []) shows (window Write 0 2 ∷ [])
+          ∷ command (7 ∷ 3 ∷ 2 ∷ 0 ∷ 0 ∷ 0 ∷ []) shows (code 1 ∷ arguments [] ∷ marks [] ∷ [])
+          ∷ command (7 ∷ 4 ∷ 3 ∷ 0 ∷ 0 ∷ 0 ∷ []) shows (refused 2 ∷ marks [] ∷ [])
+          ∷ command (10 ∷ 5 ∷ 2 ∷ 0 ∷ 0 ∷ 0 ∷ []) shows (code 1 ∷ arguments [] ∷ marks [] ∷ memory (blocks (0xa0 ∷ 0xa1 ∷ [])) ∷ [])
+          ∷ command (10 ∷ 6 ∷ 3 ∷ 0 ∷ 0 ∷ 0 ∷ []) shows (refused 2 ∷ marks [] ∷ memory (blocks (0xa0 ∷ 0xa1 ∷ [])) ∷ [])
+          ∷ [];
+    }
+
+-- "6. Version 1, window 1 to 2, a = 1: L = 4,096 marks one block, 4,097 two, 8,193 refused. a = 0, L = 1 refused."; 4,096 is 0x1000 and
+-- 8,193 is 0x2001, and the second create leaves no mark of the first window
+abbrev pub example6 : Example
+example6 =
+    record {
+      start = start;
+      lines =
+          command (2 ∷ 1 ∷ 1 ∷ []) shows (version 1 ∷ [])
+          ∷ command (6 ∷ 2 ∷ 1 ∷ 0 ∷ []) shows (code 1 ∷ arguments (16 ∷ 0 ∷ []) ∷ window Write 1 2 ∷ marks [] ∷ [])
+          ∷ command (7 ∷ 3 ∷ 1 ∷ 0 ∷ 0x00 ∷ 0x10 ∷ 0 ∷ 0 ∷ []) shows (code 1 ∷ arguments [] ∷ marks (1 ∷ []) ∷ [])
+          ∷ command (6 ∷ 4 ∷ 1 ∷ 0 ∷ []) shows (code 1 ∷ actions 17 ∷ window Write 1 2 ∷ marks [] ∷ [])
+          ∷ command (7 ∷ 5 ∷ 1 ∷ 0 ∷ 0x01 ∷ 0x20 ∷ 0 ∷ 0 ∷ []) shows (refused 2 ∷ marks [] ∷ [])
+          ∷ command (7 ∷ 6 ∷ 0 ∷ 0 ∷ 0x01 ∷ 0x00 ∷ 0 ∷ 0 ∷ []) shows (refused 2 ∷ marks [] ∷ [])
+          ∷ command (7 ∷ 7 ∷ 1 ∷ 0 ∷ 0x01 ∷ 0x10 ∷ 0 ∷ 0 ∷ []) shows (code 1 ∷ arguments [] ∷ marks (1 ∷ 1 ∷ []) ∷ [])
+          ∷ [];
+    }
+
+-- "7. MARK_DIRTY in a read window: 7; at version 1: 2.": of a block that the window has
+abbrev pub example7 : Example
+example7 =
+    record {
+      start = start;
+      lines =
+          command (2 ∷ 1 ∷ 2 ∷ []) shows (version 2 ∷ [])
+          ∷ command (4 ∷ 2 ∷ 0 ∷ 0 ∷ []) shows (window Read 0 2 ∷ [])
+          ∷ command (7 ∷ 3 ∷ 0 ∷ 0 ∷ 1 ∷ 0 ∷ []) shows (refused 7 ∷ marks [] ∷ [])
+          ∷ command (2 ∷ 4 ∷ 1 ∷ []) shows (version 1 ∷ window Read 0 2 ∷ [])
+          ∷ command (7 ∷ 5 ∷ 0 ∷ 0 ∷ 0x00 ∷ 0x10 ∷ 0 ∷ 0 ∷ []) shows (refused 2 ∷ marks [] ∷ [])
+          ∷ [];
+    }
+
+-- "8. Erase then dirty: 17 actions. Dirty then erase: 1.": flash block 1, the first of a window of two. The host writes the whole window each
+-- time; block 2 has no mark and stays, and the erased block is FF all the same
+abbrev pub example8 : Example
+example8 =
+    record {
+      start = start;
+      lines =
+          command (2 ∷ 1 ∷ 2 ∷ []) shows (version 2 ∷ [])
+          ∷ command (6 ∷ 2 ∷ 1 ∷ 0 ∷ []) shows (window Write 1 2 ∷ memory (blocks (0xa1 ∷ 0xa2 ∷ [])) ∷ [])
+          ∷ command (10 ∷ 3 ∷ 0 ∷ 0 ∷ 1 ∷ 0 ∷ []) shows (code 1 ∷ marks (2 ∷ []) ∷ memory (blocks (0xff ∷ 0xa2 ∷ [])) ∷ [])
+          ∷ write (blocks (0x3c ∷ 0x3c ∷ [])) shows []
+          ∷ command (7 ∷ 4 ∷ 0 ∷ 0 ∷ 1 ∷ 0 ∷ []) shows (code 1 ∷ marks (1 ∷ []) ∷ [])
+          ∷ command (8 ∷ 5 ∷ []) shows (code 1 ∷ actions 17 ∷ marks [] ∷ flash (blocks (0xa0 ∷ 0x3c ∷ 0xa2 ∷ 0xa3 ∷ [])) ∷ [])
+          ∷ command (7 ∷ 6 ∷ 0 ∷ 0 ∷ 1 ∷ 0 ∷ []) shows (code 1 ∷ marks (1 ∷ []) ∷ [])
+          ∷ command (10 ∷ 7 ∷ 0 ∷ 0 ∷ 1 ∷ 0 ∷ []) shows (code 1 ∷ marks (2 ∷ []) ∷ memory (blocks (0xff ∷ 0x3c ∷ [])) ∷ [])
+          ∷ write (blocks (0x5a ∷ 0x5a ∷ [])) shows []
+          ∷ command (8 ∷ 8 ∷ []) shows (code 1 ∷ actions 1 ∷ marks [] ∷ flash (blocks (0xa0 ∷ 0xff ∷ 0xa2 ∷ 0xa3 ∷ [])) ∷ [])
+          ∷ [];
+    }
+
+-- so many steps in a row that each do an action
+abbrev pub steps : ℕ → ℕ → List Line
+steps done zero = []
+steps done (suc n) = step done shows (code 1 ∷ actions 1 ∷ []) ∷ steps (suc done) n
+
+-- a block whose first page is filled with one value, and the rest with another
+abbrev pub paged : ℕ → ℕ → List ℕ
+paged first rest = replicate pageBytes first ++ replicate (blockBytes - pageBytes) rest
+
+-- the flash of the start, but for the bytes of block 1
+abbrev pub withBlock1 : List ℕ → List ℕ
+withBlock1 bytes = blocks (0xa0 ∷ []) ++ (bytes ++ blocks (0xa2 ∷ 0xa3 ∷ []))
+
+-- "9. One dirty block after 0, 1, 2, 17 actions: old; all FF; first page new, the rest FF; all new.": flash block 1, in a window of its own.
+-- The new bytes of the first page are not those of the rest, and an 18th step finds nothing to do
+abbrev pub example9 : Example
+example9 =
+    record {
+      start = start;
+      lines =
+          command (2 ∷ 1 ∷ 2 ∷ []) shows (version 2 ∷ [])
+          ∷ command (6 ∷ 2 ∷ 1 ∷ 0 ∷ 1 ∷ 0 ∷ []) shows (window Write 1 1 ∷ [])
+          ∷ write (paged 0x11 0x3c) shows []
+          ∷ command (7 ∷ 3 ∷ 0 ∷ 0 ∷ 1 ∷ 0 ∷ []) shows (marks (1 ∷ []) ∷ flash (start .flash) ∷ [])
+          ∷ step 0 shows (code 1 ∷ actions 1 ∷ flash (withBlock1 (paged 0xff 0xff)) ∷ [])
+          ∷ step 1 shows (code 1 ∷ actions 1 ∷ flash (withBlock1 (paged 0x11 0xff)) ∷ [])
+          ∷ (steps 2 14
+          ++ (step 16 shows (code 1 ∷ actions 1 ∷ flash (withBlock1 (paged 0x11 0x3c)) ∷ [])
+          ∷ step 17 shows (code 1 ∷ actions 0 ∷ marks (1 ∷ []) ∷ flash (withBlock1 (paged 0x11 0x3c)) ∷ [])
+          ∷ []));
+    }
+
+-- "10. Suspended FLUSH: 6; at version 1: 5."; the mark and the flash stay
+abbrev pub example10 : Example
+example10 =
+    record {
+      start = start;
+      lines =
+          command (2 ∷ 1 ∷ 2 ∷ []) shows (version 2 ∷ [])
+          ∷ command (6 ∷ 2 ∷ 1 ∷ 0 ∷ []) shows (window Write 1 2 ∷ [])
+          ∷ write (blocks (0x3c ∷ 0x3c ∷ [])) shows []
+          ∷ command (7 ∷ 3 ∷ 0 ∷ 0 ∷ 1 ∷ 0 ∷ []) shows (marks (1 ∷ []) ∷ [])
+          ∷ suspend shows []
+          ∷ command (8 ∷ 4 ∷ []) shows (refused 6 ∷ actions 0 ∷ marks (1 ∷ []) ∷ flash (start .flash) ∷ [])
+          ∷ command (2 ∷ 5 ∷ 1 ∷ []) shows (version 1 ∷ [])
+          ∷ command (8 ∷ 6 ∷ []) shows (refused 5 ∷ actions 0 ∷ marks (1 ∷ []) ∷ flash (start .flash) ∷ [])
+          ∷ [];
+    }
+
+-- "11. Repeated sequence: 8; at version 1: 2; GET_INFO served.": the command that repeats is a create, which another number gets through
+abbrev pub example11 : Example
+example11 =
+    record {
+      start = start;
+      lines =
+          command (2 ∷ 1 ∷ 2 ∷ []) shows (version 2 ∷ [])
+          ∷ command (6 ∷ 1 ∷ 0 ∷ 0 ∷ []) shows (refused 8 ∷ window Closed 0 0 ∷ [])
+          ∷ command (2 ∷ 1 ∷ 1 ∷ []) shows (code 1 ∷ arguments (1 ∷ 2 ∷ 0 ∷ 2 ∷ 0 ∷ []) ∷ version 1 ∷ [])
+          ∷ command (6 ∷ 1 ∷ 0 ∷ 0 ∷ []) shows (refused 2 ∷ window Closed 0 0 ∷ [])
+          ∷ command (2 ∷ 1 ∷ 2 ∷ []) shows (code 1 ∷ arguments (2 ∷ 0 ∷ 0 ∷ 0 ∷ 0 ∷ 12 ∷ 8 ∷ 0 ∷ []) ∷ version 2 ∷ [])
+          ∷ command (6 ∷ 2 ∷ 0 ∷ 0 ∷ []) shows (code 1 ∷ window Write 0 2 ∷ [])
+          ∷ [];
+    }
+
+-- "12. Page byte 0F over F0 gives 00; F0 over FF gives F0.": the first page of block 0, and that of block 1
+abbrev pub example12 : Example
+example12 =
+    record {
+      start = freshWith (blocks (0xf0 ∷ 0xff ∷ 0xff ∷ 0xff ∷ [])) (blocks (0x0f ∷ 0xf0 ∷ []));
+      lines =
+          act (program 0 0) shows (flash (paged 0x00 0xf0 ++ blocks (0xff ∷ 0xff ∷ 0xff ∷ [])) ∷ [])
+          ∷ act (program 1 0) shows (flash (paged 0x00 0xf0 ++ (paged 0xf0 0xff ++ blocks (0xff ∷ 0xff ∷ []))) ∷ [])
+          ∷ [];
+    }
+
+-- all twelve
+unfoldable pub examples : List Example
+examples =
+    example1 ∷ example2 ∷ example3 ∷ example4 ∷ example5 ∷ example6 ∷ example7 ∷ example8 ∷ example9 ∷ example10 ∷ example11 ∷ example12
+    ∷ []

@@ -1,0 +1,5 @@
+mod Filling
+mod Lines
+mod Numbers
+mod Others
+pub mod Progress

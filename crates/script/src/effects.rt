@@ -1,0 +1,115 @@
+// What a record does: to the session, the flash and the window memory.
+use crate::Item;
+use crate::Kind;
+use buffers::fill;
+use mailbox::Answer;
+use mailbox::Board;
+use mailbox::command;
+use session::Session;
+use session::Suspension;
+use session::Window;
+use session::resume;
+use session::resume_changed;
+use session::suspend;
+use units::Blocks;
+ghost use mathlib.Core.Path.{_≡_};
+ghost use lib.ListN.{length};
+ghost use Rattle.mailbox.specs.Refusals.{isWrite};
+ghost use Rattle.script.specs.Effects.{fillAllowed, filled, keeping, afterCommand, effect};
+
+// What a record leaves: whether it keeps the rules, the session, and the registers, which are the
+// answer where it is a command.
+pub struct Served {
+    pub good: bool,
+    pub session: Session,
+    pub registers: [u8; 16],
+}
+
+// Carries out a record. One that breaks a rule changes nothing.
+pub fn serve(
+    item: Item,
+    session: Session,
+    board: Board,
+    flash: &mut [u8],
+    memory: &mut [u8],
+) -> Served
+    ensures { λ r. ⌜ (r ≡ effect board item session (now (flash .entry)) (now (memory .entry)) .served)
+        × (now (flash .exit) ≡ effect board item session (now (flash .entry)) (now (memory .entry)) .flash)
+        × (now (memory .exit) ≡ effect board item session (now (flash .entry)) (now (memory .entry)) .memory) ⌝ }
+{
+    let kind = item.kind;
+    let registers = item.registers;
+    match kind {
+        Kind::Command => answered(command(session, registers, board, flash, memory)),
+        Kind::Fill => Served {
+            good: fill_window(session, memory, item.offset, item.count, item.value),
+            session,
+            registers,
+        },
+        Kind::Suspend => moved(suspend(session), registers),
+        Kind::Resume => moved(resume(session), registers),
+        Kind::ResumeChanged => moved(resume_changed(session), registers),
+        Kind::Malformed => Served {
+            good: false,
+            session,
+            registers,
+        },
+    }
+}
+
+fn answered(answer: Answer) -> Served
+    ensures { λ r. ⌜ r ≡ afterCommand answer ⌝ }
+{
+    let session = answer.session;
+    let registers = answer.registers;
+    Served {
+        good: true,
+        session,
+        registers,
+    }
+}
+
+// Whether suspend or resume answered yes is not asked.
+fn moved(suspension: Suspension, registers: [u8; 16]) -> Served
+    ensures { λ r. ⌜ r ≡ keeping (suspension .session) registers ⌝ }
+{
+    let session = suspension.session;
+    Served {
+        good: true,
+        session,
+        registers,
+    }
+}
+
+// The host fills a range of the active write window; the answer says whether it may. A refused fill
+// changes nothing.
+pub fn fill_window(session: Session, memory: &mut [u8], offset: u32, count: u32, value: u8) -> bool
+    ensures { λ r. ⌜ (r ≡ fillAllowed session (length (now (memory .entry))) offset count)
+        × (now (memory .exit) ≡ filled session offset count value (now (memory .entry))) ⌝ }
+{
+    let window = session.window;
+    if !is_write(window) {
+        return false;
+    }
+    let end = (offset as u64) + (count as u64);
+    if Blocks(session.size as u32).bytes().0 < end {
+        return false;
+    }
+    if (memory.len() as u64) < end {
+        return false;
+    }
+    let first = offset as usize;
+    let last = end as usize;
+    fill(&mut memory[first..last], value);
+    true
+}
+
+fn is_write(window: Window) -> bool
+    ensures { λ r. ⌜ r ≡ isWrite window ⌝ }
+{
+    match window {
+        Window::Closed => false,
+        Window::Read => false,
+        Window::Write => true,
+    }
+}

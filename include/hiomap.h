@@ -1,0 +1,111 @@
+/*
+ * The hiomap mediator for C: what crates/board exports. Build the archive with `rt staticlib board`
+ * and link target/staticlib/libboard.a (x86-64 Linux).
+ *
+ * Ownership. The caller owns everything: the record of the session, the registers, the flash image and
+ * the window memory. A call borrows what it is given and keeps nothing of it when it returns; there is
+ * no hidden state and no allocation, so several records may be in use side by side. Functions that take
+ * a record by value leave the caller's alone and give the new one back.
+ *
+ * What the caller must see to, since nothing here can check it:
+ *   - pointers are not null, aligned for their type, and lead to initialised memory of the stated size,
+ *     also where a length is 0;
+ *   - no two of the things that one call borrows overlap (record, registers, flash, window memory), and
+ *     nobody else writes to them during the call: an interrupt or another thread must wait. The window
+ *     memory is written by the host between the calls, and not during one;
+ *   - each bool byte is 0 or 1.
+ * Every other value is taken: any version, event byte, marks, window number and buffer length gets the
+ * answer that the rules give it, SYSTEM_ERROR (4) where the record or the sizes are not sound.
+ */
+#ifndef HIOMAP_H
+#define HIOMAP_H
+
+#include <stdbool.h>
+#include <stddef.h>
+#include <stdint.h>
+
+#define HIOMAP_REGISTERS 16
+#define HIOMAP_BLOCK_BYTES 4096
+
+/* The kinds of window. A record with a larger number is not sound. */
+#define HIOMAP_WINDOW_NONE 0
+#define HIOMAP_WINDOW_READ 1
+#define HIOMAP_WINDOW_WRITE 2
+
+/* A session, as the board keeps it. Make one with hiomap_fresh. */
+typedef struct hiomap_record {
+    uint8_t version;   /* the agreed version: 0 none, 1, 2 */
+    bool numbered;     /* whether there is a previous sequence number */
+    uint8_t previous;  /* that number; without one the byte has no meaning and is kept */
+    uint8_t events;    /* the event byte */
+    bool suspended;    /* whether flash access is suspended */
+    uint8_t window;    /* HIOMAP_WINDOW_.. */
+    uint16_t first;    /* the window's first flash block; 0 without a window */
+    uint16_t size;     /* its size in blocks; 0 without a window */
+    uint8_t marks[64]; /* of each window block: 0 clean, 1 dirty, 2 erased */
+} hiomap_record;
+
+/* Bytes that a call may change, and bytes that it only reads: where they are and how many. By value. */
+typedef struct hiomap_bytes {
+    uint8_t *start;
+    size_t length;
+} hiomap_bytes;
+
+typedef struct hiomap_const_bytes {
+    const uint8_t *start;
+    size_t length;
+} hiomap_const_bytes;
+
+/* The answer yes or no of a suspend or resume, and the record afterwards. */
+typedef struct hiomap_suspended {
+    bool done;
+    hiomap_record record;
+} hiomap_suspended;
+
+/* What a step answers: 4 SYSTEM_ERROR, 6 BUSY or 1, and whether it did an action. */
+typedef struct hiomap_stepped {
+    uint8_t code;
+    bool acted;
+} hiomap_stepped;
+
+_Static_assert(sizeof(hiomap_record) == 74 && offsetof(hiomap_record, first) == 6 && offsetof(hiomap_record, marks) == 10,
+               "hiomap_record is laid out as the library has it");
+_Static_assert(sizeof(hiomap_suspended) == 76 && offsetof(hiomap_suspended, record) == 2,
+               "hiomap_suspended is laid out as the library has it");
+_Static_assert(sizeof(hiomap_stepped) == 2, "hiomap_stepped is laid out as the library has it");
+
+/* A fresh session: version 0, event byte 0x81, no window. */
+hiomap_record hiomap_fresh(void);
+
+/*
+ * Serves one mailbox command and returns the number of its chip actions.
+ *   record     the session; changed in place. A window number above 2 is answered with SYSTEM_ERROR, and
+ *              the record then stays exactly as it is
+ *   registers  the 16 registers as received; they hold the response afterwards
+ *   lpc        the window's first LPC block (B)
+ *   timeout    the suggested timeout in seconds (T)
+ *   flash      the whole flash image, 1 to 65,535 blocks; a flush changes it
+ *   memory     the whole window memory, 1 to 64 blocks; a create and an ERASE change it
+ */
+uint32_t hiomap_command(hiomap_record *record, uint8_t (*registers)[HIOMAP_REGISTERS], uint16_t lpc, uint16_t timeout,
+                        hiomap_bytes flash, hiomap_bytes memory);
+
+/*
+ * Flash access is suspended; resumed with the flash as it was; resumed with the flash changed, which drops
+ * the window. They act on any record. `done` is false where there was nothing to do, and the record is
+ * then the one that was given. A window number above 2 is kept by the first two; the third makes it 0.
+ */
+hiomap_suspended hiomap_suspend(hiomap_record record);
+hiomap_suspended hiomap_resume(hiomap_record record);
+hiomap_suspended hiomap_resume_changed(hiomap_record record);
+
+/*
+ * Advances the flush of the record's window by one chip action.
+ *   flash      the whole flash image; the action changes it
+ *   memory     the whole window memory; only read
+ *   done       how many actions were done before: the caller counts one for each answer with `acted`
+ * The record has no change: the marks stay until a FLUSH or a close.
+ */
+hiomap_stepped hiomap_step(hiomap_record record, hiomap_bytes flash, hiomap_const_bytes memory, uint64_t done);
+
+#endif

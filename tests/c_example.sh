@@ -1,0 +1,12 @@
+#!/usr/bin/env bash
+# The example board loop in C: builds the archive of crates/board and the example, runs it, and compares
+# what it prints with examples/board/expected.txt.
+set -euo pipefail
+cd "$(dirname "$0")/.."
+built=target/c_example
+rt staticlib board
+mkdir -p "$built"
+gcc -std=c11 -O2 -Wall -Wextra -Werror -Iinclude examples/board/loop.c target/staticlib/libboard.a -o "$built/loop"
+"$built/loop" > "$built/printed.txt"
+diff -u examples/board/expected.txt "$built/printed.txt"
+echo "c example: as expected"
