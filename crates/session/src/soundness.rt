@@ -101,16 +101,18 @@ fn markable_blocks(window: Window, size: u16) -> usize
     }
 }
 
+// All marks are looked at, whatever the first ones are: a loop without a way out compiles to vector code.
 fn marks_are_sound(marks: [u8; 64], markable: usize) -> bool
     ensures { λ r. ⌜ r ≡ marksSound markable marks ⌝ }
 {
+    let mut all = true;
     let mut i = 0;
     while i < 64 {
         let most = if i < markable { 2 } else { 0 };
         if most < marks[i] {
-            return false;
+            all = false;
         }
         i += 1;
     }
-    true
+    all
 }
