@@ -4,7 +4,7 @@
 set -euo pipefail
 cd "$(dirname "$0")/.."
 built=target/c_example
-rt staticlib board
+bash tests/staticlib.sh
 mkdir -p "$built"
 gcc -std=c11 -O2 -Wall -Wextra -Werror -Iinclude examples/board/loop.c target/staticlib/libboard.a -o "$built/loop"
 "$built/loop" > "$built/printed.txt"

@@ -4,7 +4,7 @@
 #     tests/cases.sh second   writes what the second implementation prints there, to be read against 01 before it is kept
 set -euo pipefail
 cd "$(dirname "$0")/.."
-rt staticlib board > target/staticlib.log 2>&1 || { cat target/staticlib.log; exit 1; }
+bash tests/staticlib.sh
 cargo build --release --offline --quiet --manifest-path tests/compare/Cargo.toml --target-dir target/cargo
 for section in refusals edges unsound suspensions cuts largest; do
     stored=tests/cases/$section.txt

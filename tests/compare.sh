@@ -3,7 +3,7 @@
 #     tests/compare.sh [SEED [ROUNDS]]
 set -euo pipefail
 cd "$(dirname "$0")/.."
-rt staticlib board > target/staticlib.log 2>&1 || { cat target/staticlib.log; exit 1; }
+bash tests/staticlib.sh
 [ -x target/bin/bench ] || rt check bench > target/bench.log 2>&1 || { tail -n 40 target/bench.log; exit 1; }
 cargo build --release --offline --quiet --manifest-path tests/compare/Cargo.toml --target-dir target/cargo
 BENCH=target/bin/bench target/cargo/release/compare "${1:-1}" "${2:-12000}"
