@@ -1,6 +1,6 @@
 -- Laws of sound marks, from place i on.
 use mathlib.Core.Path.{_≡_, refl, sym, ap, _∙_}
-use mathlib.Core.Bool.{Bool, true, false, _&&_}
+use mathlib.Core.Bool.{Bool, true, false, cond, _&&_}
 use mathlib.Core.List.{List, [], _∷_}
 use mathlib.Core.Logic.{_⊎_, ⊎-elim}
 use Prim.Native.Nat.{ℕ, zero, suc, _+_, _-_, _≤_, _<_}
@@ -10,6 +10,7 @@ use lib.Dec.{leb}
 use lib.ListN.{length, getD, drop, drop-of-length-le}
 use lib.Seq.{drop-cons}
 use borrow.Author.Tests.{le-leb, lt-leb}
+use Rattle.units.proofs.Cases.{below-or}
 use Rattle.session.specs.Soundness.{marksSound}
 
 module _ (n i : ℕ) (ms : List ℕ) (h : i < length ms) where
@@ -59,3 +60,17 @@ marks-end n i ms h = ap (marksSound (n - i)) (drop-of-length-le ms h) ∙ none (
   where
     none : (m : ℕ) → marksSound m [] ≡ true
     none m = refl
+
+-- all limits past the last mark are alike
+marks-past : (n m : ℕ) (ms : List ℕ) → length ms ≤ n → length ms ≤ m → marksSound n ms ≡ marksSound m ms
+marks-past n m [] h k = refl
+marks-past zero m (x ∷ ms) h k = absurd (omega arith)
+marks-past (suc n) zero (x ∷ ms) h k = absurd (omega arith)
+marks-past (suc n) (suc m) (x ∷ ms) h k = ap (λ (t : Bool). leb x 2 && t) (marks-past n m ms (omega arith) (omega arith))
+
+pub marks-narrow : (n : ℕ) (ms : List ℕ) → length ms ≤ 64 → marksSound (cond (leb 64 n) 64 n) ms ≡ marksSound n ms
+marks-narrow n ms h =
+    ⊎-elim
+    (λ k. rw (lt-leb 64 n k))
+    (λ k. rw (le-leb 64 n k) (marks-past 64 n ms h (omega arith)))
+    (below-or n 64)

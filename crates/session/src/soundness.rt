@@ -4,6 +4,8 @@ use crate::Window;
 use units::Bytes;
 ghost use mathlib.Core.Path.{_≡_};
 ghost use Prim.Native.Nat.{_<_};
+ghost use mathlib.Core.Bool.{cond};
+ghost use lib.Dec.{leb};
 ghost use Rattle.session.specs.Soundness.{sound, soundAt, sizeSound, activeSound, windowSound, markable, marksSound, sessionSound};
 
 // The most blocks of a flash and of a window memory, and how far the LPC blocks go.
@@ -91,27 +93,41 @@ fn active_is_sound(first: u16, size: u16, flash: u32, memory: u32) -> bool
 }
 
 // How many blocks of the window may be marked.
-fn markable_blocks(window: Window, size: u16) -> usize
+fn markable_blocks(window: Window, size: u16) -> u16
     ensures { λ r. ⌜ r ≡ markable window size ⌝ }
 {
     match window {
         Window::Closed => 0,
         Window::Read => 0,
-        Window::Write => size as usize,
+        Window::Write => size,
     }
 }
 
-// All marks are looked at, whatever the first ones are: a loop without a way out compiles to vector code.
-fn marks_are_sound(marks: [u8; 64], markable: usize) -> bool
+// A limit of 64 or more is met by no mark.
+fn narrow(markable: u16) -> u8
+    ensures { λ r. ⌜ r ≡ cond (leb 64 markable) 64 markable ⌝ }
+{
+    if markable < 64 {
+        return markable as u8;
+    }
+    64
+}
+
+// All marks are looked at, whatever the first ones are: a loop without a way out, with a count as narrow as
+// a mark beside the place, compiles to a few vector instructions.
+fn marks_are_sound(marks: [u8; 64], markable: u16) -> bool
     ensures { λ r. ⌜ r ≡ marksSound markable marks ⌝ }
 {
+    let limit = narrow(markable);
     let mut all = true;
+    let mut n: u8 = 0;
     let mut i = 0;
     while i < 64 {
-        let most = if i < markable { 2 } else { 0 };
+        let most = if n < limit { 2 } else { 0 };
         if most < marks[i] {
             all = false;
         }
+        n += 1;
         i += 1;
     }
     all

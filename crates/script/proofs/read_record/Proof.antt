@@ -1,3 +1,4 @@
+-- `script::read_record` meets its contract: each kind by its number.
 use borrow.Author.Tests.{ne-eqb}
 use mathlib.Core.Path.{sym, ap, _∙_}
 use Rattle.script.proofs.Numbers.{number-bad, number-read}

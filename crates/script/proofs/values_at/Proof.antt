@@ -1,3 +1,4 @@
+-- `script::values_at` meets its contract: the values from place i on are still to be read.
 use mathlib.Core.Path.{_≡_, sym, ap, _∙_}
 use native.Mathlib.Omega.{arith}
 use Rattle.script.proofs.Numbers.{number-bad, number-read, within, above, values-next}

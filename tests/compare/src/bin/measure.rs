@@ -7,17 +7,28 @@ use std::time::Instant;
 
 const BLOCK: usize = 4096;
 
-/// The least time of one call, in nanoseconds, over many rounds.
-fn least(rounds: usize, calls: usize, mut work: impl FnMut()) -> f64 {
-    let mut best = f64::MAX;
+/// What the measured calls work on.
+struct Room {
+    flash: Vec<u8>,
+    memory: Vec<u8>,
+}
+
+/// The least time of one call of each, in nanoseconds, over many rounds that take turns.
+fn least(rounds: usize, calls: usize, room: &mut Room, ours: impl Fn(&mut Room), other: impl Fn(&mut Room)) -> [f64; 2] {
+    let mut best = [f64::MAX; 2];
     for _ in 0..rounds {
-        let begin = Instant::now();
-        for _ in 0..calls {
-            work();
-        }
-        best = best.min(begin.elapsed().as_nanos() as f64 / calls as f64);
+        best[0] = best[0].min(mean(calls, room, &ours));
+        best[1] = best[1].min(mean(calls, room, &other));
     }
     best
+}
+
+fn mean(calls: usize, room: &mut Room, work: &impl Fn(&mut Room)) -> f64 {
+    let begin = Instant::now();
+    for _ in 0..calls {
+        work(room);
+    }
+    begin.elapsed().as_nanos() as f64 / calls as f64
 }
 
 fn write_window(first: u16, size: u16, mark: u8) -> Session {
@@ -39,83 +50,78 @@ fn request(code: u8, a: u16, b: u16) -> [u8; 16] {
     registers
 }
 
-/// One command of the proved library on a fresh copy of a record.
-fn ours(record: &Record, registers: [u8; 16], flash: &mut [u8], memory: &mut [u8]) -> u32 {
+/// One command of the proved library on a copy of a record, with so much of the flash.
+fn ours(record: &Record, mut registers: [u8; 16], room: &mut Room, flash: usize) {
     let mut record = *record;
-    let mut registers = registers;
-    let actions = compare::command(&mut record, &mut registers, 16, 8, flash, memory);
+    compare::command(&mut record, &mut registers, 16, 8, &mut room.flash[..flash], &mut room.memory);
     assert_eq!(registers[13], 1);
     black_box(record.events);
-    actions
 }
 
-fn theirs(session: &Session, registers: [u8; 16], flash: &mut [u8], memory: &mut [u8]) {
+fn theirs(session: &Session, registers: [u8; 16], room: &mut Room) {
     let mut session = session.clone();
-    black_box(second::command(&mut session, registers, 16, 8, flash, memory));
+    black_box(second::command(&mut session, registers, 16, 8, &mut room.flash, &mut room.memory));
 }
 
-fn line(what: &str, ours: f64, other: &str, theirs: f64, aim: f64) {
+fn line(what: &str, other: &str, [ours, theirs]: [f64; 2], aim: f64) {
     let ratio = ours / theirs;
     let verdict = if ratio <= aim { "within" } else { "OVER" };
     println!("| {what} | {ours:.0} ns | {other} | {theirs:.0} ns | {ratio:.2} | {aim:.2} | {verdict} |");
 }
 
-fn main() {
-    let mut flash = vec![0x5a; 64 * BLOCK];
-    let mut memory = vec![0xa5; 64 * BLOCK];
-    println!("| what | ours | against | that | ratio | aim | |");
-    println!("|---|---|---|---|---|---|---|");
-
+/// The work on bytes, against the machine's own.
+fn against_the_machine(room: &mut Room, closed: &Record) {
     let dirty = record_of(&write_window(0, 64, 1));
-    let flush = least(40, 5, || assert_eq!(ours(&dirty, request(8, 0, 0), &mut flash, &mut memory), 1088));
-    let base = least(40, 5, || {
-        flash.fill(0xff);
-        black_box(&mut flash);
-        for (byte, new) in flash.iter_mut().zip(&memory) {
+    let flush = |room: &mut Room| ours(&dirty, request(8, 0, 0), room, 64 * BLOCK);
+    let fill = |room: &mut Room| {
+        room.flash.fill(0xff);
+        black_box(&mut room.flash);
+        for (byte, new) in room.flash.iter_mut().zip(&room.memory) {
             *byte &= *new;
         }
-        black_box(&mut flash);
-    });
-    line("flush of 64 dirty blocks", flush, "memset and AND of the same bytes", base, 1.5);
+        black_box(&mut room.flash);
+    };
+    line("flush of 64 dirty blocks", "memset and AND of the same bytes", least(200, 5, room, flush, fill), 1.5);
+    let create = |room: &mut Room| ours(closed, request(4, 0, 64), room, 64 * BLOCK);
+    let copy = |room: &mut Room| {
+        room.memory.copy_from_slice(black_box(&room.flash));
+        black_box(&mut room.memory);
+    };
+    line("create of a 64-block window", "memcpy of the same bytes", least(200, 5, room, create, copy), 1.3);
+}
 
-    let mut agreed = Session::fresh();
-    agreed.version = 2;
-    let closed = record_of(&agreed);
-    let create = least(40, 5, || {
-        ours(&closed, request(4, 0, 64), &mut flash, &mut memory);
-    });
-    let copy = least(40, 5, || {
-        memory.copy_from_slice(black_box(&flash));
-        black_box(&mut memory);
-    });
-    line("create of a 64-block window", create, "memcpy of the same bytes", copy, 1.3);
-
+/// The work on registers and marks, against the second implementation.
+fn against_the_second(room: &mut Room) {
     let clean = write_window(0, 64, 0);
+    let record = record_of(&clean);
     for (what, registers) in [("GET_INFO", request(2, 2, 0)), ("MARK_DIRTY of one block", request(7, 1, 1)), ("MARK_DIRTY of 64 blocks", request(7, 0, 64))] {
-        let mine = least(60, 20_000, || {
-            ours(&record_of(&clean), registers, &mut flash, &mut memory);
-        });
-        let other = least(60, 20_000, || theirs(&clean, registers, &mut flash, &mut memory));
-        line(what, mine, "the second implementation", other, 1.0);
+        let both = least(200, 20_000, room, |room| ours(&record, registers, room, 64 * BLOCK), |room| theirs(&clean, registers, room));
+        line(what, "the second implementation", both, 1.0);
     }
+}
 
-    let mut large = vec![0xff; 65_535 * BLOCK];
-    let mut small = vec![0xff; 4 * BLOCK];
-    let mut window = vec![0; 2 * BLOCK];
+/// The largest chip against a small one, which is its front.
+fn against_a_small_chip(closed: &Record) {
+    let mut room = Room { flash: vec![0xff; 65_535 * BLOCK], memory: vec![0; 2 * BLOCK] };
     let two = record_of(&write_window(0, 2, 1));
     let none = record_of(&write_window(0, 2, 0));
     for (what, record, registers, calls) in [
         ("GET_INFO", &none, request(2, 2, 0), 20_000),
         ("MARK_DIRTY", &none, request(7, 0, 1), 20_000),
-        ("create of 2 blocks", &closed, request(6, 0, 2), 200),
-        ("flush of 2 dirty blocks", &two, request(8, 0, 0), 200),
+        ("create of 2 blocks", closed, request(6, 0, 2), 500),
+        ("flush of 2 dirty blocks", &two, request(8, 0, 0), 500),
     ] {
-        let big = least(60, calls, || {
-            ours(record, registers, &mut large, &mut window);
-        });
-        let little = least(60, calls, || {
-            ours(record, registers, &mut small, &mut window);
-        });
-        line(&format!("{what}, S = 65,535"), big, "S = 4", little, 1.1);
+        let both = least(200, calls, &mut room, |room| ours(record, registers, room, 65_535 * BLOCK), |room| ours(record, registers, room, 4 * BLOCK));
+        line(&format!("{what}, S = 65,535"), "S = 4", both, 1.1);
     }
+}
+
+fn main() {
+    println!("| what | ours | against | that | ratio | aim | |");
+    println!("|---|---|---|---|---|---|---|");
+    let mut room = Room { flash: vec![0x5a; 64 * BLOCK], memory: vec![0xa5; 64 * BLOCK] };
+    let closed = record_of(&Session { version: 2, ..Session::fresh() });
+    against_the_machine(&mut room, &closed);
+    against_the_second(&mut room);
+    against_a_small_chip(&closed);
 }

@@ -1,3 +1,4 @@
+-- `script::effects::serve` meets its contract: each kind of record by itself.
 use mathlib.Core.Path.{sym, ap, _∙_}
 use mathlib.Core.Bool.{Bool}
 use Rattle.session.specs.declared.suspension.Suspension.{Suspension}

@@ -1,3 +1,4 @@
+-- `script::text::count_written` meets its contract: the bytes from place i on are still to be counted.
 use mathlib.Core.Path.{_≡_}
 use native.Mathlib.Omega.{arith}
 use borrow.Author.Needs.{needs}

@@ -1,3 +1,4 @@
+-- `script::text::hex_digit` meets its contract.
 use Prim.Native.Nat.{_%_}
 use borrow.Author.Tests.{lt-ltb, le-ltb}
 use borrow.Author.Needs.{needs}

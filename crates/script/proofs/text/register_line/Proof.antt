@@ -1,3 +1,4 @@
+-- `script::text::register_line` meets its contract: the registers before place i are written.
 use mathlib.Core.Path.{_≡_, sym, ap, _∙_}
 use mathlib.Core.List.{List}
 use Prim.Native.Nat.{ℕ, _+_, _-_, _*_, _/_, _%_, _≤_, zero-le}

@@ -2,7 +2,7 @@
 use mathlib.Core.Path.{_≡_, refl, sym, ap, _∙_}
 use mathlib.Core.Bool.{Bool, true, false, _&&_}
 use mathlib.Core.Logic.{inl, inr, ⊎-elim}
-use Rattle.session.proofs.Marks.{mark-over, mark-within, marks-end}
+use Rattle.session.proofs.Marks.{mark-over, mark-within, marks-end, marks-narrow}
 use Prim.Native.Nat.{ℕ, _≤_, _+_, _-_}
 use native.Mathlib.Omega.{arith}
 use borrow.Author.Needs.{needs}
@@ -12,19 +12,26 @@ use Rattle.session.proofs.soundness.marks_are_sound.Statement.{statemen
 use Rattle.session.proofs.soundness.marks_are_sound.Tie as tie
 
 abbrev Inv-loop : tie.InvT-loop
-Inv-loop markable marks all₀ i₀ all i = (i ≤ 64) × (marksSound markable marks ≡ (all && marksSound (markable - i) (drop i marks)))
+Inv-loop markable marks limit all₀ n₀ i₀ all n i =
+    (i ≤ 64) × (n ≡ i) × (marksSound limit marks ≡ (all && marksSound (limit - i) (drop i marks)))
 
 abbrev μ-loop : tie.MeasureT-loop
-μ-loop markable marks all₀ i₀ all i = 64 - i
+μ-loop markable marks limit all₀ n₀ i₀ all n i = 64 - i
+
+narrow-requires : tie.Need-narrow-requires Inv-loop μ-loop
+narrow-requires c κs = search needs
 
 loop-holds : tie.Need-loop-holds Inv-loop μ-loop
-loop-holds c = (omega arith, ap (λ (m : ℕ). marksSound m (c .args .t1)) (whole (c .args .markable)))
+loop-holds c = (omega arith, refl, ap (λ (m : ℕ). marksSound m (c .before .args .t1)) (whole (c .narrow .result)))
   where
     whole : (m : ℕ) → m ≡ m - 0
     whole m = omega arith
 
 array-read-if2 : tie.Need-array-read-if2 Inv-loop μ-loop
 array-read-if2 c = omega arith
+
+add-n : tie.Need-add-n Inv-loop μ-loop
+add-n c = omega arith
 
 add-i : tie.Need-add-i Inv-loop μ-loop
 add-i c = omega arith
@@ -43,27 +50,35 @@ and-true false = refl
 
 loop-again : tie.Need-loop-again Inv-loop μ-loop
 loop-again c =
-    let a = c .before .before .before .before .args in
+    let a = c .before .before .before .before .before .args in
+    let limit = c .before .before .before .before .narrow .result in
     let l = c .before .before .before .loop in
     let long : length (a .t1) ≡ 64 = search needs in
-    let rest = marksSound (a .markable - (l .i + 1)) (drop (l .i + 1) (a .t1)) in (
+    let rest = marksSound (limit - (l .i + 1)) (drop (l .i + 1) (a .t1)) in (
       omega arith,
-      l .inv .1
+      omega arith,
+      l .inv .2
           ∙ ⊎-elim
-          (λ w. ap (λ (t : Bool). l .all && t) (mark-over (a .markable) (l .i) (a .t1) (omega arith) (c .before .if1 .most) (⊎-elim (λ v. inl (v .0 .taken, v .1)) (λ v. inr (v .0 .left, v .1)) (c .before .if1 .came)) (w .0 .taken))
+          (λ w. ap (λ (t : Bool). l .all && t) (mark-over limit (l .i) (a .t1) (omega arith) (c .before .if1 .most) (⊎-elim (λ v. inl (omega arith, v .1)) (λ v. inr (omega arith, v .1)) (c .before .if1 .came)) (w .0 .taken))
           ∙ and-false (l .all)
           ∙ ap (λ (t : Bool). t && rest) (sym (w .1)))
-          (λ w. ap (λ (t : Bool). l .all && t) (mark-within (a .markable) (l .i) (a .t1) (omega arith) (c .before .if1 .most) (⊎-elim (λ v. inl (v .0 .taken, v .1)) (λ v. inr (v .0 .left, v .1)) (c .before .if1 .came)) (w .0 .left))
+          (λ w. ap (λ (t : Bool). l .all && t) (mark-within limit (l .i) (a .t1) (omega arith) (c .before .if1 .most) (⊎-elim (λ v. inl (omega arith, v .1)) (λ v. inr (omega arith, v .1)) (c .before .if1 .came)) (w .0 .left))
           ∙ ap (λ (t : Bool). t && rest) (sym (w .1)))
           (c .if2 .came),
     )
 
 returns : tie.Need-returns Inv-loop μ-loop
 returns c =
-    let a = c .before .before .args in
+    let a = c .before .before .before .args in
+    let limit = c .before .before .narrow in
     let l = c .before .loop in
     let long : length (a .t1) ≡ 64 = search needs in
-    sym (l .inv .1 ∙ ap (λ (t : Bool). l .all && t) (marks-end (a .markable) (l .i) (a .t1) (omega arith)) ∙ and-true (l .all))
+    sym
+    (sym (marks-narrow (a .markable) (a .t1) (omega arith))
+    ∙ ap (λ (n : ℕ). marksSound n (a .t1)) (sym (limit .ensures))
+    ∙ l .inv .2
+    ∙ ap (λ (t : Bool). l .all && t) (marks-end (limit .result) (l .i) (a .t1) (omega arith))
+    ∙ and-true (l .all))
 
 pub marks-are-sound-spec : {M : Type 1} → statement M
-marks-are-sound-spec = tie.close (tie.spec Inv-loop μ-loop loop-holds array-read-if2 add-i loop-less loop-again returns)
+marks-are-sound-spec = tie.close (tie.spec Inv-loop μ-loop narrow-requires loop-holds array-read-if2 add-n add-i loop-less loop-again returns)
