@@ -15,7 +15,7 @@
  *     memory is written by the host between the calls, and not during one;
  *   - each bool byte is 0 or 1.
  * Every other value is taken: any version, event byte, marks, window number and buffer length gets the
- * answer that the rules give it, SYSTEM_ERROR (4) where the record or the sizes are not sound.
+ * answer that the rules give it, SYSTEM_ERROR (4) where the record, the sizes or lpc are not sound.
  */
 #ifndef HIOMAP_H
 #define HIOMAP_H
@@ -104,7 +104,7 @@ hiomap_suspended hiomap_resume_changed(hiomap_record record);
  *   flash      the whole flash image; the action changes it
  *   memory     the whole window memory; only read
  *   done       how many actions were done before: the caller counts one for each answer with `acted`
- * The record has no change: the marks stay until a FLUSH or a close.
+ * The record has no change, and the marks stay: a FLUSH after the steps does all actions again.
  */
 hiomap_stepped hiomap_step(hiomap_record record, hiomap_bytes flash, hiomap_const_bytes memory, uint64_t done);
 

@@ -109,6 +109,10 @@ int main(void) {
     printf("kept %s\n", yes(memcmp(&before, &session, sizeof session) == 0));
     hiomap_stepped broken = step(0);
     printf("step %u %s\n", broken.code, yes(broken.acted));
+    change_access("suspend", hiomap_suspend); /* suspend and resume act on any record */
+    printf("window %u events %02X\n", session.window, session.events);
+    change_access("resume changed", hiomap_resume_changed);
+    printf("window %u events %02X\n", session.window, session.events);
     print_flash();
     return 0;
 }

@@ -106,7 +106,8 @@ pub fn session_of(r: &Record) -> Session {
         kind: match r.window {
             0 => Kind::Closed,
             1 => Kind::Read,
-            _ => Kind::Write,
+            2 => Kind::Write,
+            number => panic!("window number {number}"),
         },
         first: r.first,
         size: r.size,

@@ -28,7 +28,7 @@ struct Machine {
 }
 
 impl Machine {
-    /// No two blocks are alike, and no byte of them is FF.
+    /// No two of 16 blocks are alike, and no byte of them is FF.
     fn new(side: Side, flash: usize, memory: usize) -> Machine {
         Machine { side, session: Session::fresh(), lpc: LPC, flash: pattern(flash, 0x10), memory: pattern(memory, 0x80) }
     }
@@ -160,6 +160,12 @@ fn print_command(m: &mut Machine, code: u8, arguments: &[u16]) {
     println!("  {code} {arguments:?}: {} actions {actions}; {}", hex(&registers), session_text(&m.session));
 }
 
+/// Each block's byte, where all of its bytes are alike.
+fn bytes_text(bytes: &[u8]) -> String {
+    let blocks = bytes.chunks(BLOCK).map(|block| if block.iter().all(|b| *b == block[0]) { format!("{:02X}", block[0]) } else { "mixed".into() });
+    blocks.collect::<Vec<_>>().join(" ")
+}
+
 /// Each command at its edges, each on a session of its own.
 fn edges(side: Side) {
     for version in 0..3 {
@@ -179,6 +185,7 @@ fn edges(side: Side) {
             let mut m = with_window(side, version, Kind::Write);
             m.session.marks[1] = 1;
             print_command(&mut m, code, &arguments);
+            println!("    flash {} memory {}", bytes_text(&m.flash), bytes_text(&m.memory));
         }
     }
 }
@@ -233,11 +240,11 @@ fn unsound(side: Side) {
 }
 
 fn print_soundness(name: &str, mut m: Machine) {
-    let before = (m.session.clone(), m.memory.clone());
+    let before = m.clone();
     let (code, acted) = m.step(0);
-    let (registers, _) = m.send(2, 3, &[1]);
-    let kept = m.session == before.0 && m.memory == before.1;
-    println!("{name}: step {code} {acted}, GET_INFO {}, session kept {kept}", registers[13]);
+    let (registers, actions) = m.send(2, 3, &[1]);
+    let kept = m.session == before.session && m.memory == before.memory && m.flash == before.flash;
+    println!("{name}: step {code} {acted}, GET_INFO {} actions {actions}, all kept {kept}", registers[13]);
 }
 
 /// Suspend and resume, twice each, with each window and two event bytes, on sound and unsound sessions.
@@ -257,36 +264,37 @@ fn suspensions(side: Side) {
     }
 }
 
-/// For each block: how many bytes are old, FF, new and other.
-fn blocks_text(flash: &[u8], old: &[u8], memory: &[u8], first: usize) -> String {
-    let blocks = flash.chunks(BLOCK).enumerate().map(|(b, block)| {
-        let mut counts = [0; 4];
-        for (i, byte) in block.iter().enumerate() {
-            let at = b * BLOCK + i;
-            let new = at.checked_sub(first * BLOCK).and_then(|w| memory.get(w)).copied();
-            counts[if *byte == old[at] { 0 } else if *byte == 0xff { 1 } else if Some(*byte) == new { 2 } else { 3 }] += 1;
+/// Each page of each block: o old, F all FF, n new, ? something else.
+fn pages_text(flash: &[u8], old: &[u8], memory: &[u8], first: usize) -> String {
+    let mut text = String::new();
+    for (p, page) in flash.chunks(256).enumerate() {
+        let at = p * 256;
+        let new = at.checked_sub(first * BLOCK).and_then(|w| memory.get(w..w + 256));
+        if p % 16 == 0 && p > 0 {
+            text.push(' ');
         }
-        format!("{}/{}/{}/{}", counts[0], counts[1], counts[2], counts[3])
-    });
-    blocks.collect::<Vec<_>>().join(" ")
+        text.push(if page == &old[at..at + 256] { 'o' } else if page.iter().all(|b| *b == 0xff) { 'F' } else if Some(page) == new { 'n' } else { '?' });
+    }
+    text
 }
 
 /// A flush of marks dirty, clean, erased, dirty, cut at every action, and the second run after it.
 fn cuts(side: Side) {
-    println!("window 1 to 4 of 6 blocks, marks 1 0 2 1; for each block the bytes old/FF/new/other after the cut");
+    println!("window 1 to 4 of 6 blocks, marks 1 0 2 1; each page after the cut: o old, F all FF, n new");
     let mut start = Machine::new(side, 6 * BLOCK, 4 * BLOCK);
+    start.memory = start.memory.chunks(256).enumerate().flat_map(|(p, page)| page.iter().map(move |b| b ^ p as u8)).collect();
     start.session = Session { version: 2, kind: Kind::Write, first: 1, size: 4, ..Session::fresh() };
     start.session.marks[..4].copy_from_slice(&[1, 0, 2, 1]);
     let mut whole = start.clone();
     let (registers, n) = whole.send(8, 1, &[]);
-    println!("whole flush: {} actions {n}; {}", hex(&registers), blocks_text(&whole.flash, &start.flash, &start.memory, 1));
+    println!("whole flush: {} actions {n}; {}", hex(&registers), pages_text(&whole.flash, &start.flash, &start.memory, 1));
     for cut in 0..=u64::from(n) + 1 {
         let mut m = start.clone();
         let acted = (0..cut).filter(|j| m.step(*j).1).count();
         let flash = m.flash.clone();
         let answer = m.step(cut);
         let kept = m.session == start.session && m.memory == start.memory;
-        let after = blocks_text(&flash, &start.flash, &start.memory, 1);
+        let after = pages_text(&flash, &start.flash, &start.memory, 1);
         let again = second_run(Machine { flash, ..m }, &start, &whole);
         println!("cut after {cut}: {acted} done, next {answer:?}, kept {kept}; {after}; second run {again}");
     }
@@ -304,6 +312,18 @@ fn second_run(mut m: Machine, start: &Machine, whole: &Machine) -> String {
     let (registers, actions) = m.send(8, 7, &[]);
     codes.push(registers[13]);
     format!("{codes:?} actions {actions}, as the whole flush {}", m.flash == whole.flash)
+}
+
+/// A window of 64 blocks: all marks, the last mark alone, and the most actions.
+fn full(side: Side) {
+    let mut m = Machine::new(side, 66 * BLOCK, 64 * BLOCK);
+    m.session.version = 2;
+    for (code, arguments) in [(6u8, [1, 0]), (7, [0, 64]), (8, [0, 0]), (7, [63, 1]), (7, [63, 2]), (8, [0, 0]), (10, [0, 64]), (7, [62, 1]), (8, [0, 0])] {
+        m.memory[63 * BLOCK..].fill(0xa0 + code);
+        m.session.previous = None;
+        print_command(&mut m, code, &arguments);
+        println!("    flash {}", bytes_text(&m.flash));
+    }
 }
 
 /// The largest chip at version 1: sizes in bytes, and its last block.
@@ -333,6 +353,7 @@ fn main() {
         Some("unsound") => unsound(side),
         Some("suspensions") => suspensions(side),
         Some("cuts") => cuts(side),
+        Some("full") => full(side),
         Some("largest") => largest(side),
         _ => panic!("no such section"),
     }

@@ -21,7 +21,8 @@ struct Pair {
 
 impl Pair {
     fn new(r: &mut Random) -> Pair {
-        let (s, c) = (1 + r.below(8) as usize, 1 + r.below(4) as usize);
+        let full = r.once_in(50);
+        let (s, c) = if full { (60 + r.below(10) as usize, 64) } else { (1 + r.below(8) as usize, 1 + r.below(4) as usize) };
         let mut flash = vec![0; length(r, s)];
         let mut memory = vec![0; length(r, c)];
         r.fill(&mut flash);
@@ -91,7 +92,7 @@ impl Pair {
 
 /// Mostly whole blocks, now and then any length.
 fn length(r: &mut Random, blocks: usize) -> usize {
-    match r.below(16) {
+    match r.below(60) {
         0 => r.below(3 * BLOCK as u64) as usize,
         1 => blocks * BLOCK + 1,
         2 => blocks * BLOCK - 1,
@@ -165,7 +166,12 @@ fn calls(r: &mut Random) -> Result<(), String> {
             1 => pair.host_write(r),
             2 | 3 => {
                 pair.step(done)?;
-                done = if r.once_in(10) { r.next() } else { done + 1 };
+                done = match r.below(6) {
+                    0 => r.next(),
+                    1 | 2 => r.below(80),
+                    3 => 1000 + r.below(100),
+                    _ => done.wrapping_add(1),
+                };
             }
             _ => pair.command(registers(r))?,
         }
@@ -173,7 +179,7 @@ fn calls(r: &mut Random) -> Result<(), String> {
     Ok(())
 }
 
-/// Demand 3 on the proved library: cut at any action, open again, mark, write and flush.
+/// Demand 3 on the proved library: cut at any action, open again, mark, write and flush. The steps up to the cut run beside the second's.
 fn cut(r: &mut Random) -> Result<(), String> {
     let (s, c) = (2 + r.below(6) as usize, 1 + r.below(4) as usize);
     let mut flash = vec![0; s * BLOCK];
@@ -195,8 +201,12 @@ fn cut(r: &mut Random) -> Result<(), String> {
         compare::step(&record, &mut whole, &mut memory, j);
     }
     let cut = r.below(n + 1);
+    let mut theirs = flash.clone();
     for j in 0..cut {
-        compare::step(&record, &mut flash, &mut memory, j);
+        let answer = compare::step(&record, &mut flash, &mut memory, j);
+        if answer != second::step(&session_of(&record), &mut theirs, &memory, j) || answer != (1, true) || flash != theirs {
+            return Err(format!("cut: step {j} of {n} differs"));
+        }
     }
     let mut other = vec![0; c * BLOCK];
     r.fill(&mut other);
@@ -230,31 +240,71 @@ fn cut(r: &mut Random) -> Result<(), String> {
     Ok(())
 }
 
-/// The bench program against the second implementation's, on records of all kinds and on damaged ones.
-fn bench(r: &mut Random, program: &str) -> Result<(), String> {
+/// Records of all kinds for the bench: mostly a write window is opened first, so that fills and marks find one.
+fn records(r: &mut Random) -> Vec<u8> {
     let mut input = Vec::new();
-    for _ in 0..r.below(30) {
-        let kind = if r.once_in(15) { r.below(9) } else { [0, 0, 0, 1, 2, 3, 4][r.below(7) as usize] };
-        put(&mut input, kind);
-        match kind {
-            0 => {
-                let count = if r.once_in(20) { r.below(16) } else { 6 + r.below(8) };
-                put(&mut input, count);
-                put(&mut input, r.below(12));
-                for i in 1..count {
-                    put(&mut input, if i == 1 { r.below(250) } else if r.once_in(8) { r.below(300) } else { r.below(4) });
-                }
+    let (window, version, first) = (!r.once_in(8), 1 + r.below(2), r.below(3));
+    if window {
+        put_command(&mut input, &[2, 1, version]);
+        put_command(&mut input, &[6, 2, first, 0, r.below(4), 0]);
+    }
+    for sequence in 3..3 + r.below(30) {
+        match r.below(24) {
+            0..=5 if window => put_fill(&mut input, r),
+            6 => put(&mut input, 2),
+            7..=9 => put(&mut input, 3),
+            10 if r.once_in(8) => put(&mut input, 4),
+            11 if r.once_in(8) => {
+                let any = [r.below(12), r.below(250), r.below(260), r.below(260), r.below(260), r.below(260), 0, 0, 0, 0, 0, 0, 0, 0];
+                put_command(&mut input, &any[..2 + r.below(13) as usize]);
             }
-            1 => {
-                put(&mut input, r.below(9000));
-                put(&mut input, if r.once_in(9) { r.next() >> 32 } else { r.below(4000) });
-                let values = if r.once_in(9) { 300 } else { 256 };
-                put(&mut input, r.below(values));
+            12 => put_command(&mut input, &[[1, 2, 3, 4, 5, 6, 9][r.below(7) as usize], sequence, r.below(4), 0, r.below(4), 0]),
+            _ => {
+                let code = [7, 7, 8, 8, 10][r.below(5) as usize];
+                put_command(&mut input, &range(r, code, sequence, version, first));
             }
-            _ => {}
         }
     }
-    if r.once_in(3) && !input.is_empty() {
+    input
+}
+
+/// A range about the window's, as the version has it: a flash block and bytes, or a window block and blocks.
+fn range(r: &mut Random, code: u64, sequence: u64, version: u64, first: u64) -> [u64; 8] {
+    if version == 1 {
+        [code, sequence, first + r.below(2), 0, r.below(2), 16 * r.below(3), 0, 0]
+    } else {
+        [code, sequence, r.below(2), 0, r.below(3), 0, 0, 0]
+    }
+}
+
+fn put_command(input: &mut Vec<u8>, registers: &[u64]) {
+    put(input, 0);
+    put(input, registers.len() as u64);
+    for register in registers {
+        put(input, *register);
+    }
+}
+
+/// A fill, mostly within one block of the window, now and then at its end or past it.
+fn put_fill(input: &mut Vec<u8>, r: &mut Random) {
+    put(input, 1);
+    let (offset, count) = match r.below(80) {
+        0 => (8192, 0),
+        1 => (4096, 4096),
+        2 => (8192, 1),
+        3 => (r.below(9000), r.next() >> 31),
+        4 => (0, 0),
+        _ => (r.below(3000), r.below(1000)),
+    };
+    put(input, offset);
+    put(input, count);
+    put(input, if r.once_in(80) { 256 } else { r.below(256) });
+}
+
+/// The bench program against the second implementation's, on records of all kinds and on damaged ones. Says whether the flash was written.
+fn bench(r: &mut Random, program: &str) -> Result<bool, String> {
+    let mut input = records(r);
+    if r.once_in(4) && !input.is_empty() {
         let at = r.below(input.len() as u64) as usize;
         input[at] = r.next() as u8;
     }
@@ -263,12 +313,12 @@ fn bench(r: &mut Random, program: &str) -> Result<(), String> {
     }
     let mut child = Command::new(program).stdin(Stdio::piped()).stdout(Stdio::piped()).spawn().map_err(|e| format!("{program}: {e}"))?;
     child.stdin.take().unwrap().write_all(&input).map_err(|e| e.to_string())?;
-    let ours = child.wait_with_output().map_err(|e| e.to_string())?.stdout;
+    let ours = child.wait_with_output().map_err(|e| e.to_string())?;
     let theirs = second::bench(&input);
-    if ours != theirs {
-        return Err(format!("bench on {input:02x?}: {:?}, the second implementation {:?}", String::from_utf8_lossy(&ours), String::from_utf8_lossy(&theirs)));
+    if !ours.status.success() || ours.stdout != theirs {
+        return Err(format!("bench on {input:02x?}: {:?}, the second implementation {:?}", String::from_utf8_lossy(&ours.stdout), String::from_utf8_lossy(&theirs)));
     }
-    Ok(())
+    Ok(!theirs.ends_with(b"flash 0 0 0 0\n") && !theirs.starts_with(b"too long"))
 }
 
 /// A number in seven-bit groups.
@@ -280,17 +330,22 @@ fn put(out: &mut Vec<u8>, mut n: u64) {
     out.push(n as u8);
 }
 
+fn number(argument: Option<String>) -> u64 {
+    argument.expect("compare SEED ROUNDS").parse().expect("a number")
+}
+
 fn main() {
     let mut arguments = std::env::args().skip(1);
-    let first: u64 = arguments.next().and_then(|a| a.parse().ok()).unwrap_or(1);
-    let rounds: u64 = arguments.next().and_then(|a| a.parse().ok()).unwrap_or(1);
-    let program = std::env::var("BENCH").unwrap_or_default();
+    let (first, rounds) = (number(arguments.next()), number(arguments.next()));
+    let program = std::env::var("BENCH").expect("BENCH names the bench program");
     println!("compare: seeds {first} to {}", first + rounds - 1);
+    let (mut runs, mut written) = (0, 0);
     for seed in first..first + rounds {
         let mut r = Random(seed.wrapping_mul(0x1234_5678_9abc_def1));
         let mut result = calls(&mut r).and_then(|()| cut(&mut r));
-        if result.is_ok() && !program.is_empty() && seed % 8 == 0 {
-            result = bench(&mut r, &program);
+        if result.is_ok() && seed % 4 == 0 {
+            runs += 1;
+            result = bench(&mut r, &program).map(|wrote| written += u64::from(wrote));
         }
         if let Err(difference) = result {
             println!("seed {seed}: {difference}");
@@ -298,5 +353,6 @@ fn main() {
             std::process::exit(1);
         }
     }
-    println!("compare: {rounds} rounds, no difference");
+    println!("compare: {rounds} rounds, {runs} of them with the bench program, {written} of these wrote to its flash; no difference");
+    assert!(runs < 100 || written > runs / 20, "the bench program is hardly tried");
 }

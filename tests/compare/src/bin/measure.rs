@@ -1,4 +1,4 @@
-//! Measures the proved library in one run beside the machine's own limits and the second implementation; every figure is a ratio.
+//! Measures the proved library in one run beside the machine's own limits and the second implementation, as times and their ratio.
 
 use compare::{record_of, Record};
 use second::{Kind, Session};
