@@ -10,7 +10,7 @@ ghost use Rattle.board.specs.Record.{windowNumber, windowOf, previousOf,
 pub const LAST_WINDOW: u8 = 2;
 
 // The session that a record stands for.
-pub fn session_of(held: Record) -> Session
+pub(crate) fn session_of(held: Record) -> Session
     ensures { λ r. ⌜ r ≡ sessionOf held ⌝ }
 {
     let marks = held.marks;
@@ -27,7 +27,7 @@ pub fn session_of(held: Record) -> Session
 }
 
 // The record of a session, with the byte that it has where there is no previous number.
-pub fn record_of(session: Session, spare: u8) -> Record
+pub(crate) fn record_of(session: Session, spare: u8) -> Record
     ensures { λ r. ⌜ r ≡ recordOf spare session ⌝ }
 {
     let previous = session.previous;

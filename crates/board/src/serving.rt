@@ -19,7 +19,7 @@ pub struct Served {
 }
 
 // Serves one mailbox command. A record whose window number is no window's is refused, and stays.
-pub fn serve(
+pub(crate) fn serve(
     held: Record,
     registers: [u8; 16],
     lpc: u16,

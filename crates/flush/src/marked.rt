@@ -30,7 +30,7 @@ pub enum Place {
 }
 
 // Does all actions, and answers their number.
-pub fn flush_marked(part: &mut [u8], memory: &[u8], marks: [u8; 64]) -> u32
+pub(crate) fn flush_marked(part: &mut [u8], memory: &[u8], marks: [u8; 64]) -> u32
     ensures { λ r. ⌜ (r ≡ length (flushActions marks))
         × (now (part .exit) ≡ performAll (now (memory .entry)) (flushActions marks) (now (part .entry))) ⌝ }
 {
@@ -45,7 +45,7 @@ pub fn flush_marked(part: &mut [u8], memory: &[u8], marks: [u8; 64]) -> u32
 }
 
 // Does the action after the first so many, and answers whether there was one.
-pub fn step_marked(part: &mut [u8], memory: &[u8], marks: [u8; 64], done: u64) -> bool
+pub(crate) fn step_marked(part: &mut [u8], memory: &[u8], marks: [u8; 64], done: u64) -> bool
     ensures { λ r. ⌜ (r ≡ ltb done (length (flushActions marks)))
         × (now (part .exit) ≡ performAll (now (memory .entry)) (take 1 (drop done (flushActions marks))) (now (part .entry))) ⌝ }
 {

@@ -9,7 +9,7 @@ ghost use Prim.Native.Nat.{_<_};
 ghost use Rattle.mailbox.specs.Commands.{infoAnswer, flashInfoAnswer};
 
 // Agrees the smaller of the host's highest version and 2; memory is the window memory in blocks.
-pub fn get_info(session: Session, registers: [u8; 16], board: Board, memory: u32) -> Answer
+pub(crate) fn get_info(session: Session, registers: [u8; 16], board: Board, memory: u32) -> Answer
     ensures { λ r. ⌜ r ≡ infoAnswer board session registers memory ⌝ }
 {
     let mut next = session;
@@ -38,7 +38,7 @@ pub fn get_info(session: Session, registers: [u8; 16], board: Board, memory: u32
 }
 
 // The flash's size and erase granule: in bytes at version 1, in blocks from version 2 on.
-pub fn get_flash_info(session: Session, registers: [u8; 16], flash: u32) -> Answer
+pub(crate) fn get_flash_info(session: Session, registers: [u8; 16], flash: u32) -> Answer
     ensures { λ r. ⌜ r ≡ flashInfoAnswer session registers flash ⌝ }
 {
     if session.version < 2 {

@@ -27,7 +27,7 @@ const ERASED: u8 = 2;
 const NONE: [u8; 11] = [0; 11];
 
 // The named blocks are marked dirty.
-pub fn mark_dirty(session: Session, registers: [u8; 16]) -> Answer
+pub(crate) fn mark_dirty(session: Session, registers: [u8; 16]) -> Answer
     requires { ⌜ blocksNamed session registers .start + blocksNamed session registers .count ≤ 64 ⌝ }
     ensures { λ r. ⌜ r ≡ dirtyAnswer session registers ⌝ }
 {
@@ -35,7 +35,7 @@ pub fn mark_dirty(session: Session, registers: [u8; 16]) -> Answer
 }
 
 // The named blocks are marked erased, and become FF in the window memory.
-pub fn erase(session: Session, registers: [u8; 16], memory: &mut [u8]) -> Answer
+pub(crate) fn erase(session: Session, registers: [u8; 16], memory: &mut [u8]) -> Answer
     requires { ⌜ blocksNamed session registers .start + blocksNamed session registers .count ≤ 64 ⌝ }
     requires { ⌜ toBytes (blocksNamed session registers .start) + toBytes (blocksNamed session registers .count) ≤ length (now memory) ⌝ }
     ensures { λ r. ⌜ (r ≡ erasedOutcome session registers [] (now (memory .entry)) .answer)
@@ -55,7 +55,12 @@ pub fn erase(session: Session, registers: [u8; 16], memory: &mut [u8]) -> Answer
 }
 
 // The marked blocks are flushed; at version 1 the named ones are marked dirty first.
-pub fn flush(session: Session, registers: [u8; 16], flash: &mut [u8], memory: &[u8]) -> Answer
+pub(crate) fn flush(
+    session: Session,
+    registers: [u8; 16],
+    flash: &mut [u8],
+    memory: &[u8],
+) -> Answer
     requires { ⌜ (flushMarks session registers ≡ true → blocksNamed session registers .start + blocksNamed session registers .count ≤ 64) ⌝ }
     ensures { λ r. ⌜ (r ≡ flushed session registers (now (flash .entry)) (now (memory .entry)) .answer)
         × (now (flash .exit) ≡ flushed session registers (now (flash .entry)) (now (memory .entry)) .flash) ⌝ }
@@ -82,7 +87,7 @@ fn flush_all(session: Session, registers: [u8; 16], flash: &mut [u8], memory: &[
 }
 
 // Clears the event bits that argument 0 names.
-pub fn acknowledge(session: Session, registers: [u8; 16]) -> Answer
+pub(crate) fn acknowledge(session: Session, registers: [u8; 16]) -> Answer
     ensures { λ r. ⌜ r ≡ ackAnswer session registers ⌝ }
 {
     let mut next = session;

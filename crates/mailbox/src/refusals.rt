@@ -33,7 +33,7 @@ pub struct BlockRange {
     pub count: u32,
 }
 
-pub fn reason_for(
+pub(crate) fn reason_for(
     session: Session,
     registers: [u8; 16],
     board: Board,
@@ -66,7 +66,7 @@ pub fn reason_for(
 }
 
 // The code of a refusal at the agreed version.
-pub fn code_for(version: u8, reason: Reason) -> u8
+pub(crate) fn code_for(version: u8, reason: Reason) -> u8
     ensures { λ r. ⌜ r ≡ codeFor version reason ⌝ }
 {
     match reason {
@@ -201,7 +201,7 @@ fn flush_breaks_a_rule(session: Session, registers: [u8; 16]) -> bool
 }
 
 // A FLUSH adds marks: at version 1, where its length is not 0.
-pub fn flush_marks(version: u8, registers: [u8; 16]) -> bool
+pub(crate) fn flush_marks(version: u8, registers: [u8; 16]) -> bool
     ensures { λ r. ⌜ r ≡ (ltb version 2 && not (eqb (number 4 2 registers) 0)) ⌝ }
 {
     if version < 2 {
@@ -212,7 +212,7 @@ pub fn flush_marks(version: u8, registers: [u8; 16]) -> bool
 }
 
 // The window's blocks that MARK_DIRTY, ERASE, or FLUSH at version 1, names.
-pub fn blocks_named(session: Session, registers: [u8; 16]) -> BlockRange
+pub(crate) fn blocks_named(session: Session, registers: [u8; 16]) -> BlockRange
     ensures { λ r. ⌜ r ≡ blocksNamed session registers ⌝ }
 {
     let named = word(registers, 0) as u32;

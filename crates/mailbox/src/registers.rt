@@ -7,7 +7,7 @@ ghost use Rattle.mailbox.specs.Registers.{number, reply};
 ghost use Rattle.mailbox.specs.Commands.{answerWith};
 
 // The 16-bit number in arguments i and i + 1.
-pub fn word(registers: [u8; 16], i: usize) -> u16
+pub(crate) fn word(registers: [u8; 16], i: usize) -> u16
     requires { ⌜ i < 10 ⌝ }
     ensures { λ r. ⌜ r ≡ number 2 i registers ⌝ }
 {
@@ -17,7 +17,7 @@ pub fn word(registers: [u8; 16], i: usize) -> u16
 }
 
 // The 32-bit number in arguments i to i + 3.
-pub fn long(registers: [u8; 16], i: usize) -> u32
+pub(crate) fn long(registers: [u8; 16], i: usize) -> u32
     requires { ⌜ i < 8 ⌝ }
     ensures { λ r. ⌜ r ≡ number 4 i registers ⌝ }
 {
@@ -49,7 +49,7 @@ fn replied(registers: [u8; 16], code: u8, arguments: [u8; 11], events: u8) -> [u
 }
 
 // An answer with its registers.
-pub fn answer(
+pub(crate) fn answer(
     session: Session,
     registers: [u8; 16],
     code: u8,

@@ -24,14 +24,14 @@ ghost use Rattle.mailbox.specs.Commands.{answered, resetAnswer, closing,
 const NONE: [u8; 11] = [0; 11];
 
 // The window and its marks are dropped, without a flush.
-pub fn reset(session: Session, registers: [u8; 16]) -> Answer
+pub(crate) fn reset(session: Session, registers: [u8; 16]) -> Answer
     ensures { λ r. ⌜ r ≡ resetAnswer session registers ⌝ }
 {
     answer(without_window(session), registers, 1, NONE, 0)
 }
 
 // The window is flushed and dropped; the code is that of the answer.
-pub fn close_window(
+pub(crate) fn close_window(
     session: Session,
     registers: [u8; 16],
     code: u8,
@@ -46,7 +46,7 @@ pub fn close_window(
 }
 
 // The active window is closed, and a new one is opened at a block of the flash.
-pub fn create_window(
+pub(crate) fn create_window(
     window: Window,
     session: Session,
     registers: [u8; 16],
