@@ -1,7 +1,7 @@
 -- What the calls over a record rest on: the way there and back, a refused record, and an answer yes or no.
 use mathlib.Core.Path.{_≡_, refl, sym, ap, _∙_}
 use mathlib.Core.Bool.{Bool, true, false, cond, not, _&&_}
-use mathlib.Core.List.{List}
+use mathlib.Core.List.{List, []}
 use Prim.Native.Nat.{ℕ, zero, suc, _<_, _≤_}
 use native.Mathlib.Omega.{arith}
 use lib.ListN.{length}
@@ -17,12 +17,12 @@ use Rattle.flush.specs.Window.{advanced}
 use Rattle.mailbox.specs.declared.Board.{Board}
 use Rattle.mailbox.specs.declared.refusals.Reason.the-variants.{System}
 use Rattle.mailbox.specs.Refusals.{reasonFor}
-use Rattle.mailbox.specs.Commands.{withVersion}
+use Rattle.mailbox.specs.Commands.{Outcome, withVersion, answered}
 use Rattle.mailbox.specs.Mediator.{mediate, answerTo, refused}
 use Rattle.mailbox.proofs.Accepting.{mediate-as}
 use Rattle.board.specs.declared.Record.{Record}
-use Rattle.board.specs.Record.{windowOf, windowNumber, previousOf, isNumbered, numberOr, sessionOf, recordOf}
-use Rattle.board.specs.Calls.{kept, commanded, systemError, answerOf, steppedRecord}
+use Rattle.board.specs.Record.{isWindow, windowOf, windowNumber, previousOf, isNumbered, numberOr, sessionOf, recordOf, withWindow}
+use Rattle.board.specs.Calls.{Left, kept, commanded, systemError, answerOf, steppedRecord}
 
 -- ---- a session of version 3 is refused with SYSTEM_ERROR
 
@@ -59,30 +59,6 @@ module _ (f : Session → Suspension) (after : Suspension → Record) (h : Recor
       ap (λ (y : Suspension). record { done = true; held = after y }) called
       ∙ sym (ap (λ (b : Bool). answerOf b h (after (f (sessionOf h)))) (ap (λ (y : Suspension). y .done) (sym called) ∙ not-false (a .done) e))
 
--- ---- a window number above 2, and one up to 2
-
-pub commanded-above : (lpc timeout : ℕ) (h : Record) (registers flash memory : List ℕ) → 2 < h .window
-    → commanded lpc timeout h registers flash memory ≡ systemError h registers flash memory
-unfolding commanded
-commanded-above lpc timeout h registers flash memory e =
-    ap (λ (b : Bool). cond b (kept (h .previous) (mediate (record { lpc = lpc; timeout = timeout }) (sessionOf h) registers flash memory)) (systemError h registers flash memory)) (lt-leb (h .window) 2 e)
-
-pub commanded-within : (lpc timeout : ℕ) (h : Record) (registers flash memory : List ℕ) → h .window ≤ 2
-    → commanded lpc timeout h registers flash memory ≡ kept (h .previous) (mediate (record { lpc = lpc; timeout = timeout }) (sessionOf h) registers flash memory)
-unfolding commanded
-commanded-within lpc timeout h registers flash memory e =
-    ap (λ (b : Bool). cond b (kept (h .previous) (mediate (record { lpc = lpc; timeout = timeout }) (sessionOf h) registers flash memory)) (systemError h registers flash memory)) (le-leb (h .window) 2 e)
-
-pub stepped-above : (h : Record) (memory : List ℕ) (done : ℕ) (flash : List ℕ) → 2 < h .window
-    → steppedRecord h memory done flash ≡ record { code = 4; yes = false; flash = flash }
-stepped-above h memory done flash e =
-    ap (λ (b : Bool). cond b (advanced (sessionOf h) memory done flash) (record { code = 4; yes = false; flash = flash })) (lt-leb (h .window) 2 e)
-
-pub stepped-within : (h : Record) (memory : List ℕ) (done : ℕ) (flash : List ℕ) → h .window ≤ 2
-    → steppedRecord h memory done flash ≡ advanced (sessionOf h) memory done flash
-stepped-within h memory done flash e =
-    ap (λ (b : Bool). cond b (advanced (sessionOf h) memory done flash) (record { code = 4; yes = false; flash = flash })) (le-leb (h .window) 2 e)
-
 -- ---- the way there and back loses nothing
 
 windows-back : (w : Window) → windowOf (windowNumber w) ≡ w
@@ -116,3 +92,59 @@ number-back false n = refl
 pub record-back : (h : Record) → h .window ≤ 2 → recordOf (h .previous) (sessionOf h) ≡ h
 record-back h e =
     rw (numbers-back (h .window) e, numbered-back (h .numbered) (h .previous), number-back (h .numbered) (h .previous)) refl
+
+-- and so is that of a refused session, with the record's own version and window number
+unknown-back : (h : Record) → withWindow (h .window) (recordOf (h .previous) (withVersion (h .version) (withVersion 3 (sessionOf h)))) ≡ h
+unknown-back h = rw (numbered-back (h .numbered) (h .previous), number-back (h .numbered) (h .previous)) refl
+
+-- ---- a window number above 2, and one up to 2
+
+-- the record afterwards, by whether the window number is a window's
+abbrev pub afterwards : Bool → Record → Session → Record
+afterwards known h s =
+    cond known (recordOf (h .previous) s) (withWindow (h .window) (recordOf (h .previous) (withVersion (h .version) s)))
+
+-- what a command leaves of the mediator's outcome
+abbrev pub passed : Bool → Record → Outcome → Left
+passed known h o =
+    record {
+      served =
+          record {
+            held = afterwards known h (o .answer .session);
+            registers = o .answer .registers;
+            actions = o .answer .actions;
+          };
+      flash = o .flash;
+      memory = o .memory;
+    }
+
+by-window : (known : Bool) (board : Board) (h : Record) (registers flash memory : List ℕ)
+    → passed known h (mediate board (cond known (sessionOf h) (withVersion 3 (sessionOf h))) registers flash memory)
+    ≡ cond known (kept (h .previous) (mediate board (sessionOf h) registers flash memory)) (systemError h registers flash memory)
+by-window true board h registers flash memory = refl
+by-window false board h registers flash memory =
+    ap (passed false h) (three-refused board (sessionOf h) registers flash memory)
+    ∙ ap (λ (n : Record). record {
+      served = record { held = n; registers = answered (sessionOf h) registers 4 [] 0 .registers; actions = 0 };
+      flash = flash;
+      memory = memory;
+    }) (unknown-back h)
+
+pub commanded-passed : (lpc timeout : ℕ) (h : Record) (registers flash memory : List ℕ) (s : Session)
+    → s ≡ cond (isWindow (h .window)) (sessionOf h) (withVersion 3 (sessionOf h))
+    → passed (isWindow (h .window)) h (mediate (record { lpc = lpc; timeout = timeout }) s registers flash memory)
+    ≡ commanded lpc timeout h registers flash memory
+unfolding commanded
+commanded-passed lpc timeout h registers flash memory s e =
+    ap (λ (t : Session). passed (isWindow (h .window)) h (mediate (record { lpc = lpc; timeout = timeout }) t registers flash memory)) e
+    ∙ by-window (isWindow (h .window)) (record { lpc = lpc; timeout = timeout }) h registers flash memory
+
+pub stepped-above : (h : Record) (memory : List ℕ) (done : ℕ) (flash : List ℕ) → 2 < h .window
+    → steppedRecord h memory done flash ≡ record { code = 4; yes = false; flash = flash }
+stepped-above h memory done flash e =
+    ap (λ (b : Bool). cond b (advanced (sessionOf h) memory done flash) (record { code = 4; yes = false; flash = flash })) (lt-leb (h .window) 2 e)
+
+pub stepped-within : (h : Record) (memory : List ℕ) (done : ℕ) (flash : List ℕ) → h .window ≤ 2
+    → steppedRecord h memory done flash ≡ advanced (sessionOf h) memory done flash
+stepped-within h memory done flash e =
+    ap (λ (b : Bool). cond b (advanced (sessionOf h) memory done flash) (record { code = 4; yes = false; flash = flash })) (le-leb (h .window) 2 e)

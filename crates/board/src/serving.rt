@@ -5,8 +5,12 @@ use crate::convert::record_of;
 use crate::convert::session_of;
 use mailbox::Board;
 use mailbox::command;
+use session::Session;
 ghost use mathlib.Core.Path.{_≡_};
+ghost use mathlib.Core.Bool.{cond};
+ghost use Rattle.mailbox.specs.Commands.{withVersion};
 ghost use Rattle.board.specs.Calls.{commanded};
+ghost use Rattle.board.specs.Record.{isWindow, sessionOf, recordOf, withWindow};
 
 // A version that is not sound.
 const UNSOUND_VERSION: u8 = 3;
@@ -32,24 +36,38 @@ pub(crate) fn serve(
         × (now (memory .exit) ≡ commanded lpc timeout held registers (now (flash .entry)) (now (memory .entry)) .memory) ⌝ }
 {
     let board = Board { lpc, timeout };
-    let mut session = session_of(held);
-    if LAST_WINDOW < held.window {
-        session.version = UNSOUND_VERSION;
-        let refusal = command(session, registers, board, flash, memory);
-        let refused = refusal.registers;
-        return Served {
-            held,
-            registers: refused,
-            actions: refusal.actions,
-        };
-    }
-    let answer = command(session, registers, board, flash, memory);
+    let answer = command(served_session(held), registers, board, flash, memory);
     let replied = answer.registers;
     Served {
-        held: record_of(answer.session, held.previous),
+        held: kept_record(held, answer.session),
         registers: replied,
         actions: answer.actions,
     }
+}
+
+// The session that a record stands for, of an unsound version where its window number is no window's: so
+// every record takes one way through the mediator, and that call is compiled in place.
+fn served_session(held: Record) -> Session
+    ensures { λ r. ⌜ r ≡ cond (isWindow (held .window)) (sessionOf held) (withVersion 3 (sessionOf held)) ⌝ }
+{
+    let mut session = session_of(held);
+    if LAST_WINDOW < held.window {
+        session.version = UNSOUND_VERSION;
+    }
+    session
+}
+
+// The record afterwards: one whose window number is no window's keeps it, and its version.
+fn kept_record(held: Record, session: Session) -> Record
+    ensures { λ r. ⌜ r ≡ cond (isWindow (held .window)) (recordOf (held .previous) session)
+        (withWindow (held .window) (recordOf (held .previous) (withVersion (held .version) session))) ⌝ }
+{
+    let mut next = record_of(session, held.previous);
+    if LAST_WINDOW < held.window {
+        next.version = held.version;
+        next.window = held.window;
+    }
+    next
 }
 
 // Serves one mailbox command over a lent record, and answers the number of chip actions.
