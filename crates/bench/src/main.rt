@@ -1,7 +1,7 @@
 // The bench: runs the records of standard input on a small flash, and prints what the host sees.
 use libc::STDIN_FILENO;
 use libc::STDOUT_FILENO;
-use mailbox::Board;
+use refusals::Board;
 use script::Kind;
 use script::Served;
 

@@ -14,12 +14,12 @@ use Rattle.session.specs.declared.Previous.the-variants.{Absent, Number}
 use Rattle.session.specs.declared.suspension.Suspension.{Suspension}
 use Rattle.session.specs.Soundness.{sizesSound, sessionSound, sound, soundAt}
 use Rattle.flush.specs.Window.{advanced}
-use Rattle.mailbox.specs.declared.Board.{Board}
-use Rattle.mailbox.specs.declared.refusals.Reason.the-variants.{System}
-use Rattle.mailbox.specs.Refusals.{reasonFor}
+use Rattle.refusals.specs.declared.Board.{Board}
+use Rattle.refusals.specs.declared.Reason.the-variants.{System}
+use Rattle.refusals.specs.Refusals.{reasonFor}
 use Rattle.mailbox.specs.Commands.{Outcome, withVersion, answered}
 use Rattle.mailbox.specs.Mediator.{mediate, answerTo, refused}
-use Rattle.mailbox.proofs.Accepting.{mediate-as}
+use Rattle.mailbox.proofs.Mediating.{mediate-as}
 use Rattle.board.specs.declared.Record.{Record}
 use Rattle.board.specs.Record.{isWindow, windowOf, windowNumber, previousOf, isNumbered, numberOr, sessionOf, recordOf, withWindow}
 use Rattle.board.specs.Calls.{Left, kept, commanded, systemError, answerOf, steppedRecord}

@@ -5,7 +5,7 @@ use Rattle.chip.specs.Actions.{erased, programmed}
 use Rattle.session.specs.Soundness.{sizeSound, sizesSound, sessionSound, sound, soundAt}
 use Rattle.flush.specs.Actions.{blockActions, actionsFrom, flushActions, perform, performAll}
 use Rattle.flush.specs.Window.{performIn, advanced, flushWhole}
-use Rattle.mailbox.specs.Refusals.{reasonFor}
+use Rattle.refusals.specs.Refusals.{reasonFor}
 use Rattle.mailbox.specs.Mediator.{served, answerTo, mediate}
 use Rattle.examples.specs.Examples.{every, holds, examples}
 

@@ -15,7 +15,7 @@ use Rattle.session.specs.Record.{fresh}
 use Rattle.session.specs.Suspension.{suspended}
 use Rattle.flush.specs.Actions.{Action, program, perform}
 use Rattle.flush.specs.Window.{Advanced, advanced}
-use Rattle.mailbox.specs.declared.Board.{Board}
+use Rattle.refusals.specs.declared.Board.{Board}
 use Rattle.mailbox.specs.Commands.{Outcome}
 use Rattle.mailbox.specs.Mediator.{mediate}
 

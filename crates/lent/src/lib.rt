@@ -1,8 +1,8 @@
 // The lent session: "The board's loop owns one session record and lends it for each command".
 //
 // The entry takes the record apart, calls the proved function over values and stores the session back.
-use mailbox::Board;
 use mailbox::command;
+use refusals::Board;
 use session::Session;
 ghost use mathlib.Core.Path.{_≡_};
 ghost use Rattle.mailbox.specs.Mediator.{mediate};

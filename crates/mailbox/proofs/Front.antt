@@ -15,7 +15,7 @@ use Rattle.units.specs.Units.{toBytes}
 use Rattle.units.proofs.Cases.{decided}
 use Rattle.session.specs.declared.Session.{Session}
 use Rattle.session.specs.declared.Window.{Window}
-use Rattle.mailbox.specs.declared.Board.{Board}
+use Rattle.refusals.specs.declared.Board.{Board}
 use Rattle.mailbox.specs.Commands.{sizeFor, opened}
 
 pub copied-front : (flash memory ys : List ℕ) (a n first size : ℕ) → a ≡ toBytes first → n ≡ toBytes size → a + n ≤ length flash → n ≤ length memory

@@ -19,13 +19,13 @@ use Rattle.session.specs.declared.Window.{Window}
 use Rattle.session.specs.declared.Window.the-variants.{Closed, Read, Write}
 use Rattle.session.specs.Soundness.{markable, marksSound, windowSound, sizesSound, sessionSound, sound}
 use Rattle.flush.specs.Actions.{dirty}
-use Rattle.mailbox.specs.declared.Board.{Board}
-use Rattle.mailbox.specs.declared.refusals.Reason.the-variants.{Accepted}
-use Rattle.mailbox.specs.Registers.{commandOf}
-use Rattle.mailbox.specs.Refusals.{blocksNamed, flushMarks, isWrite, windowless, reasonFor}
+use Rattle.refusals.specs.declared.Board.{Board}
+use Rattle.refusals.specs.declared.Reason.the-variants.{Accepted}
+use Rattle.refusals.specs.Registers.{commandOf}
+use Rattle.refusals.specs.Refusals.{blocksNamed, flushMarks, isWrite, windowless, reasonFor}
 use Rattle.mailbox.specs.Commands.{marked}
 use Rattle.mailbox.specs.Mediator.{numbered}
-use Rattle.mailbox.proofs.Accepting.{passed, measured, named-within, flush-argument}
+use Rattle.refusals.proofs.Accepting.{passed, measured, named-within, flush-argument}
 
 -- ---- marks stay sound where some blocks of the window are marked dirty
 ones : (n count : ℕ) → count ≤ n → marksSound n (replicate count 1 ++ []) ≡ true

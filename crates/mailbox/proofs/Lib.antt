@@ -1,5 +1,4 @@
-pub mod Accepting
-pub mod Checks
 mod Fields
 pub mod Front
 pub mod Guarded
+pub mod Mediating

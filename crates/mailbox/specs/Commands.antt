@@ -13,10 +13,10 @@ use Rattle.session.specs.declared.Window.{Window}
 use Rattle.session.specs.Record.{clean, clearBits, dropWindow}
 use Rattle.flush.specs.Actions.{dirty, erasedMark}
 use Rattle.flush.specs.Window.{flushWhole}
-use Rattle.mailbox.specs.declared.Board.{Board}
+use Rattle.refusals.specs.declared.Board.{Board}
 use Rattle.mailbox.specs.declared.Answer.{Answer}
-use Rattle.mailbox.specs.Registers.{argument, number, bytesOf, padded, reply}
-use Rattle.mailbox.specs.Refusals.{blocksNamed, flushMarks}
+use Rattle.refusals.specs.Registers.{argument, number, bytesOf, padded, reply}
+use Rattle.refusals.specs.Refusals.{blocksNamed, flushMarks}
 
 -- what a call leaves: the session, the registers and the number of chip actions, and both buffers
 pub record Outcome : Type 0 where

@@ -1,4 +1,2 @@
 pub mod Commands
 pub mod Mediator
-pub mod Refusals
-pub mod Registers

@@ -8,12 +8,12 @@ use Rattle.units.specs.Units.{roundUp}
 use Rattle.session.specs.declared.Session.{Session}
 use Rattle.session.specs.declared.Previous.the-variants.{Number}
 use Rattle.session.specs.declared.Window.the-variants.{Read, Write}
-use Rattle.mailbox.specs.declared.Board.{Board}
+use Rattle.refusals.specs.declared.Board.{Board}
 use Rattle.mailbox.specs.declared.Answer.{Answer}
-use Rattle.mailbox.specs.declared.refusals.Reason.{Reason}
-use Rattle.mailbox.specs.declared.refusals.Reason.the-variants.{Accepted, System, Repeated, Unknown, Suspended, Windowless, Argument}
-use Rattle.mailbox.specs.Registers.{commandOf, sequenceOf}
-use Rattle.mailbox.specs.Refusals.{reasonFor, codeFor}
+use Rattle.refusals.specs.declared.Reason.{Reason}
+use Rattle.refusals.specs.declared.Reason.the-variants.{Accepted, System, Repeated, Unknown, Suspended, Windowless, Argument}
+use Rattle.refusals.specs.Registers.{commandOf, sequenceOf}
+use Rattle.refusals.specs.Refusals.{reasonFor, codeFor}
 use Rattle.mailbox.specs.Commands.{Outcome, answered, resetAnswer, infoAnswer, flashInfoAnswer, created, closing, closed, dirtyAnswer, flushed, ackAnswer, erasedOutcome}
 
 -- "Every other answered command makes its number the previous one"

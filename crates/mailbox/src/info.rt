@@ -1,7 +1,7 @@
 // GET_INFO and GET_FLASH_INFO.
 use crate::Answer;
-use crate::Board;
 use crate::registers::answer;
+use refusals::Board;
 use session::Session;
 use units::Blocks;
 ghost use mathlib.Core.Path.{_≡_};

@@ -3,7 +3,6 @@
 // Every content of the registers, every session record and every buffer length gets an answer.
 mod info;
 mod marks;
-mod refusals;
 mod registers;
 mod windows;
 
@@ -13,6 +12,7 @@ use marks::acknowledge;
 use marks::erase;
 use marks::flush;
 use marks::mark_dirty;
+use refusals::Board;
 use refusals::Reason;
 use refusals::code_for;
 use refusals::reason_for;
@@ -26,18 +26,12 @@ use windows::create_window;
 use windows::reset;
 ghost use mathlib.Core.Path.{_≡_};
 ghost use lib.ListN.{length};
-ghost use Rattle.mailbox.specs.declared.refusals.Reason.the-variants.{Accepted};
+ghost use Rattle.refusals.specs.declared.Reason.the-variants.{Accepted};
 ghost use Rattle.mailbox.specs.Commands.{answered};
-ghost use Rattle.mailbox.specs.Refusals.{reasonFor, codeFor};
+ghost use Rattle.refusals.specs.Refusals.{reasonFor, codeFor};
 ghost use Rattle.mailbox.specs.Mediator.{numbered, served, argumentRefused, mediate};
-ghost use Rattle.mailbox.specs.Registers.{commandOf};
+ghost use Rattle.refusals.specs.Registers.{commandOf};
 ghost use mathlib.Core.List.{[]};
-
-// What a board fixes: the window's first LPC block, and the suggested timeout in seconds.
-pub struct Board {
-    pub lpc: u16,
-    pub timeout: u16,
-}
 
 // What a command gives back: the session, the 16 registers and the number of chip actions.
 pub struct Answer {

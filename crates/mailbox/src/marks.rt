@@ -1,10 +1,10 @@
 // MARK_DIRTY, ERASE, FLUSH and ACK.
 use crate::Answer;
-use crate::refusals::blocks_named;
-use crate::refusals::flush_marks;
 use crate::registers::answer;
 use buffers::fill;
 use flush::flush_window;
+use refusals::blocks_named;
+use refusals::flush_marks;
 use session::Session;
 use units::Blocks;
 ghost use mathlib.Core.Path.{_≡_};
@@ -15,7 +15,7 @@ ghost use lib.ListN.{length, replicate};
 ghost use Rattle.buffers.specs.Ranges.{replace};
 ghost use Rattle.units.specs.Units.{toBytes};
 ghost use Rattle.session.specs.Record.{clean};
-ghost use Rattle.mailbox.specs.Refusals.{blocksNamed, flushMarks};
+ghost use Rattle.refusals.specs.Refusals.{blocksNamed, flushMarks};
 ghost use Rattle.mailbox.specs.Commands.{marked, withMarks, dirtyAnswer, flushedWith, flushed, ackAnswer, erasedOutcome};
 
 // The marks of a dirty and of an erased block.
@@ -65,7 +65,7 @@ pub(crate) fn flush(
     ensures { λ r. ⌜ (r ≡ flushed session registers (now (flash .entry)) (now (memory .entry)) .answer)
         × (now (flash .exit) ≡ flushed session registers (now (flash .entry)) (now (memory .entry)) .flash) ⌝ }
 {
-    if flush_marks(session.version, registers) {
+    if flush_marks(session, registers) {
         return flush_all(
             mark_named(session, registers, DIRTY),
             registers,

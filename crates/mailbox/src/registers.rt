@@ -1,28 +1,9 @@
-// Reading and answering the 16 registers.
+// Answering in the 16 registers.
 use crate::Answer;
 use session::Session;
 ghost use mathlib.Core.Path.{_≡_};
-ghost use Prim.Native.Nat.{_<_};
-ghost use Rattle.mailbox.specs.Registers.{number, reply};
+ghost use Rattle.refusals.specs.Registers.{reply};
 ghost use Rattle.mailbox.specs.Commands.{answerWith};
-
-// The 16-bit number in arguments i and i + 1.
-pub(crate) fn word(registers: [u8; 16], i: usize) -> u16
-    requires { ⌜ i < 10 ⌝ }
-    ensures { λ r. ⌜ r ≡ number 2 i registers ⌝ }
-{
-    let low = 2 + i;
-    let high = 3 + i;
-    (registers[low] as u16) + (registers[high] as u16) * 256
-}
-
-// The 32-bit number in arguments i to i + 3.
-pub(crate) fn long(registers: [u8; 16], i: usize) -> u32
-    requires { ⌜ i < 8 ⌝ }
-    ensures { λ r. ⌜ r ≡ number 4 i registers ⌝ }
-{
-    (word(registers, i) as u32) + (word(registers, i + 2) as u32) * 65536
-}
 
 // The registers after a command, from those received.
 fn replied(registers: [u8; 16], code: u8, arguments: [u8; 11], events: u8) -> [u8; 16]

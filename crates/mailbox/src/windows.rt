@@ -1,10 +1,10 @@
 // RESET, CREATE_READ_WINDOW, CREATE_WRITE_WINDOW and CLOSE_WINDOW.
 use crate::Answer;
-use crate::Board;
 use crate::registers::answer;
-use crate::registers::word;
 use buffers::copy;
 use flush::flush_window;
+use refusals::Board;
+use refusals::read_words;
 use session::Session;
 use session::Window;
 use units::Blocks;
@@ -17,7 +17,7 @@ ghost use lib.ListN.{length};
 ghost use Rattle.buffers.specs.Ranges.{range, replace};
 ghost use Rattle.units.specs.Units.{toBytes, roundUp};
 ghost use Rattle.session.specs.Record.{dropWindow};
-ghost use Rattle.mailbox.specs.Registers.{number};
+ghost use Rattle.refusals.specs.Registers.{number};
 ghost use Rattle.mailbox.specs.Commands.{answered, resetAnswer, closing, withWindow, sizeFor, createArguments, opened, created};
 
 // No argument.
@@ -61,7 +61,7 @@ pub(crate) fn create_window(
         × (now (flash .exit) ≡ created window board session registers (now (flash .entry)) (now (memory .entry)) .flash)
         × (now (memory .exit) ≡ created window board session registers (now (flash .entry)) (now (memory .entry)) .memory) ⌝ }
 {
-    let first = word(registers, 0);
+    let first = read_words(registers).first;
     let size = window_size(
         flash.len(),
         memory.len(),
@@ -84,7 +84,11 @@ pub(crate) fn create_window(
 fn hinted(version: u8, registers: [u8; 16]) -> u16
     ensures { λ r. ⌜ r ≡ cond (ltb version 2) 0 (number 2 2 registers) ⌝ }
 {
-    if version < 2 { 0 } else { word(registers, 2) }
+    if version < 2 {
+        0
+    } else {
+        read_words(registers).second
+    }
 }
 
 fn least(a: u32, b: u32) -> u32

@@ -18,12 +18,12 @@ use Rattle.session.proofs.Facts.{sizes, fitting, part-within}
 use Rattle.flush.specs.Actions.{Action, flushActions}
 use Rattle.flush.specs.Window.{windowActions, performIn}
 use Rattle.flush.proofs.Whole.{in-same, after-cut}
-use Rattle.mailbox.specs.declared.Board.{Board}
-use Rattle.mailbox.specs.Refusals.{flushMarks}
-use Rattle.mailbox.specs.Registers.{argument, number}
+use Rattle.refusals.specs.declared.Board.{Board}
+use Rattle.refusals.specs.Refusals.{flushMarks}
+use Rattle.refusals.specs.Registers.{argument, number}
 use Rattle.mailbox.specs.Commands.{withVersion}
 use Rattle.mailbox.specs.Mediator.{numbered}
-use Rattle.mailbox.proofs.Accepting.{measured}
+use Rattle.refusals.proofs.Accepting.{measured}
 use Rattle.recovery.specs.Cut.{Event, State, cut, start, Kept, AtCut}
 use Rattle.recovery.specs.Second.{Machine, sent, Way, bySteps, byFlush, Succeeds, flashAfter, begun, agreeing, opening, marking, SecondRun, StepsSucceed, secondEnd, secondFlash, unstopped, AddsNone, unstoppedFlash}
 use Rattle.recovery.proofs.FirstList.{sound-as, marks-sound, Running, begins, runs, says, session-after, block-at, finished-at, old-at, other-at, length-at, resumed-kept, resume-said, steps-flash, steps-said}

@@ -14,8 +14,8 @@ use Rattle.session.specs.Soundness.{sizeSound, sizesSound, sessionSound, sound,
 use Rattle.chip.specs.Actions.{erased, programmed}
 use Rattle.flush.specs.Actions.{blockActions, actionsFrom, flushActions, perform, performAll}
 use Rattle.flush.specs.Window.{performIn, flushWhole}
-use Rattle.mailbox.specs.declared.Board.{Board}
-use Rattle.mailbox.specs.Refusals.{reasonFor}
+use Rattle.refusals.specs.declared.Board.{Board}
+use Rattle.refusals.specs.Refusals.{reasonFor}
 use Rattle.mailbox.specs.Mediator.{served, answerTo, mediate}
 use Rattle.recovery.specs.Second.{send, write, bySteps, SecondRun}
 

@@ -23,14 +23,15 @@ use Rattle.session.proofs.Facts.{part-within}
 use Rattle.flush.specs.Actions.{Action, dirty, erasedMark, flushActions, actionsFrom, blockActions}
 use Rattle.flush.specs.Window.{windowActions, partEnd, performIn, flushWhole}
 use Rattle.flush.proofs.Whole.{in-none}
-use Rattle.mailbox.specs.declared.Board.{Board}
-use Rattle.mailbox.specs.declared.refusals.Reason.{Reason}
-use Rattle.mailbox.specs.declared.refusals.Reason.the-variants.{Accepted, System, Repeated, Unknown, Suspended, Windowless, Argument}
-use Rattle.mailbox.specs.Registers.{commandOf, argument, number}
-use Rattle.mailbox.specs.Refusals.{blocksNamed, flushMarks, reasonFor, codeFor}
+use Rattle.refusals.specs.declared.Board.{Board}
+use Rattle.refusals.specs.declared.Reason.{Reason}
+use Rattle.refusals.specs.declared.Reason.the-variants.{Accepted, System, Repeated, Unknown, Suspended, Windowless, Argument}
+use Rattle.refusals.specs.Registers.{commandOf, argument, number}
+use Rattle.refusals.specs.Refusals.{blocksNamed, flushMarks, reasonFor, codeFor}
 use Rattle.mailbox.specs.Commands.{Outcome, withVersion, sizeFor, closing, hint, marked, created, flushedWith, flushed}
 use Rattle.mailbox.specs.Mediator.{numbered, isCreate, refused, served, answerTo, mediate}
-use Rattle.mailbox.proofs.Accepting.{Passed, passed, Measured, measured, named-within, create-argument, mark-argument, mediate-as}
+use Rattle.refusals.proofs.Accepting.{Passed, passed, Measured, measured, named-within, create-argument, mark-argument}
+use Rattle.mailbox.proofs.Mediating.{mediate-as}
 use Rattle.mailbox.proofs.Front.{size-fits}
 use Rattle.recovery.specs.Second.{Machine, response, sent, Call, send, write, Allowed, AllAllowed, called, calledAll, begun, agreeing, opening, marking}
 

@@ -11,9 +11,9 @@ use Rattle.session.specs.declared.Session.{Session}
 use Rattle.session.specs.Record.{fresh}
 use Rattle.session.specs.Suspension.{resumed}
 use Rattle.flush.specs.Actions.{dirty}
-use Rattle.mailbox.specs.declared.Board.{Board}
-use Rattle.mailbox.specs.Registers.{commandOf}
-use Rattle.mailbox.specs.Refusals.{flushMarks}
+use Rattle.refusals.specs.declared.Board.{Board}
+use Rattle.refusals.specs.Registers.{commandOf}
+use Rattle.refusals.specs.Refusals.{flushMarks}
 use Rattle.mailbox.specs.Mediator.{mediate}
 use Rattle.recovery.specs.Cut.{Said, stepped, step, afterAll, answers, actionsOf, start}
 

@@ -11,7 +11,7 @@ use Rattle.units.specs.Units.{toBytes}
 use Rattle.buffers.specs.Ranges.{replace}
 use Rattle.buffers.proofs.Replace.{part-back}
 use Rattle.session.specs.declared.Session.{Session}
-use Rattle.mailbox.specs.Refusals.{isWrite}
+use Rattle.refusals.specs.Refusals.{isWrite}
 use Rattle.script.specs.Effects.{fillAllowed, filled}
 
 -- a lent part that comes back with one value everywhere

@@ -11,7 +11,7 @@ use Rattle.leb128.specs.Groups.{Decoded, found, cutShort, notShortest, before, 
 use Rattle.leb128.specs.declared.Read.{Read}
 use Rattle.leb128.specs.declared.Read.the-variants.{Number, Short, Malformed}
 use Rattle.session.specs.declared.Session.{Session}
-use Rattle.mailbox.specs.declared.Board.{Board}
+use Rattle.refusals.specs.declared.Board.{Board}
 use Rattle.script.specs.declared.Item.{Item}
 use Rattle.script.specs.declared.Kind.{Kind}
 use Rattle.script.specs.declared.Kind.the-variants.{Command, Fill, Suspend, Resume, ResumeChanged, Malformed as Bad}

@@ -8,9 +8,9 @@ use Rattle.units.specs.Units.{toBytes}
 use Rattle.buffers.specs.Ranges.{replace}
 use Rattle.session.specs.declared.Session.{Session}
 use Rattle.session.specs.Suspension.{suspended, resumed, resumedChanged}
-use Rattle.mailbox.specs.declared.Board.{Board}
+use Rattle.refusals.specs.declared.Board.{Board}
 use Rattle.mailbox.specs.declared.Answer.{Answer}
-use Rattle.mailbox.specs.Refusals.{isWrite}
+use Rattle.refusals.specs.Refusals.{isWrite}
 use Rattle.mailbox.specs.Commands.{Outcome}
 use Rattle.mailbox.specs.Mediator.{mediate}
 use Rattle.script.specs.declared.Item.{Item}

@@ -3,8 +3,8 @@ use crate::Item;
 use crate::Kind;
 use buffers::fill;
 use mailbox::Answer;
-use mailbox::Board;
 use mailbox::command;
+use refusals::Board;
 use session::Session;
 use session::Suspension;
 use session::Window;
@@ -14,7 +14,7 @@ use session::suspend;
 use units::Blocks;
 ghost use mathlib.Core.Path.{_≡_};
 ghost use lib.ListN.{length};
-ghost use Rattle.mailbox.specs.Refusals.{isWrite};
+ghost use Rattle.refusals.specs.Refusals.{isWrite};
 ghost use Rattle.script.specs.Effects.{fillAllowed, filled, keeping, afterCommand, effect};
 
 // What a record leaves: whether it keeps the rules, the session, and the registers, which are the

@@ -49,9 +49,9 @@ use Rattle.mailbox.specs.Mediator.{mediate}
 use Rattle.session.specs.declared.Session.{Session}
 use Rattle.session.proofs.Session as Session-t
 use Rattle.session.proofs.Session.Laws as Session-l
-use Rattle.mailbox.specs.declared.Board.{Board}
-use Rattle.mailbox.proofs.Board as Board-t
-use Rattle.mailbox.proofs.Board.Laws as Board-l
+use Rattle.refusals.specs.declared.Board.{Board}
+use Rattle.refusals.proofs.Board as Board-t
+use Rattle.refusals.proofs.Board.Laws as Board-l
 use Rattle.mailbox.specs.declared.Answer.{Answer}
 use Rattle.mailbox.proofs.Answer as Answer-t
 use Rattle.mailbox.proofs.Answer.Laws as Answer-l

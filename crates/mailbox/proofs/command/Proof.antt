@@ -2,12 +2,12 @@
 use mathlib.Core.Path.{sym, ap, _∙_}
 use mathlib.Core.List.{[]}
 use borrow.Author.Needs.{needs}
-use Rattle.mailbox.specs.declared.refusals.Reason.{Reason}
-use Rattle.mailbox.specs.declared.refusals.Reason.the-variants.{Accepted, System, Repeated, Unknown, Suspended, Windowless, Argument}
-use Rattle.mailbox.specs.Refusals.{codeFor}
+use Rattle.refusals.specs.declared.Reason.{Reason}
+use Rattle.refusals.specs.declared.Reason.the-variants.{Accepted, System, Repeated, Unknown, Suspended, Windowless, Argument}
+use Rattle.refusals.specs.Refusals.{codeFor}
 use Rattle.mailbox.specs.Commands.{Outcome, answered}
 use Rattle.mailbox.specs.Mediator.{numbered, answerTo}
-use Rattle.mailbox.proofs.Accepting.{mediate-as, argument-memory}
+use Rattle.mailbox.proofs.Mediating.{mediate-as, argument-memory}
 use Rattle.mailbox.proofs.command.Statement.{statement}
 use Rattle.mailbox.proofs.command.Tie as tie
 

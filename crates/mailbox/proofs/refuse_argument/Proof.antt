@@ -5,7 +5,7 @@ use Prim.Native.Nat.{_-_}
 use borrow.Author.Needs.{needs}
 use borrow.Author.Tests.{eq-eqb, ne-eqb}
 use Rattle.session.specs.declared.Session.{Session}
-use Rattle.mailbox.specs.Registers.{commandOf}
+use Rattle.refusals.specs.Registers.{commandOf}
 use Rattle.mailbox.specs.Commands.{Outcome, answered, closing}
 use Rattle.mailbox.proofs.refuse_argument.Statement.{statement}
 use Rattle.mailbox.proofs.refuse_argument.Tie as tie

@@ -11,10 +11,10 @@ use Rattle.units.specs.Units.{roundUp}
 use Rattle.units.proofs.Rounding.{exact-few}
 use Rattle.session.specs.declared.Session.{Session}
 use Rattle.session.specs.declared.Window.the-variants.{Read, Write}
-use Rattle.mailbox.specs.Registers.{commandOf}
+use Rattle.refusals.specs.Registers.{commandOf}
 use Rattle.mailbox.specs.Commands.{Outcome, resetAnswer, infoAnswer, flashInfoAnswer, created, closed, dirtyAnswer, flushed, ackAnswer, erasedOutcome}
 use Rattle.mailbox.specs.Mediator.{numbered, leaving, served}
-use Rattle.mailbox.proofs.Accepting.{passed, measured, named-within, create-argument, mark-argument, flush-argument, last-known}
+use Rattle.refusals.proofs.Accepting.{passed, measured, named-within, create-argument, mark-argument, flush-argument, last-known}
 use Rattle.mailbox.proofs.serve.Statement.{statement}
 use Rattle.mailbox.proofs.serve.Tie as tie
 

@@ -8,8 +8,8 @@ use Rattle.units.specs.Units.{toBytes}
 use Rattle.chip.specs.Actions.{erased}
 use Rattle.chip.proofs.Lent.{erased-part}
 use Rattle.session.specs.declared.Session.{Session}
-use Rattle.mailbox.specs.declared.refusals.BlockRange.{BlockRange}
-use Rattle.mailbox.specs.Refusals.{blocksNamed}
+use Rattle.refusals.specs.declared.BlockRange.{BlockRange}
+use Rattle.refusals.specs.Refusals.{blocksNamed}
 use Rattle.mailbox.specs.Commands.{answered}
 use Rattle.mailbox.proofs.marks.erase.Statement.{statement}
 use Rattle.mailbox.proofs.marks.erase.Tie as tie

@@ -5,7 +5,7 @@ use Prim.Native.Nat.{ℕ, _+_, _≤_}
 use borrow.Author.Needs.{needs}
 use lib.ListN.{replicate}
 use Rattle.buffers.specs.Ranges.{replace}
-use Rattle.mailbox.specs.declared.refusals.BlockRange.{BlockRange}
+use Rattle.refusals.specs.declared.BlockRange.{BlockRange}
 use Rattle.mailbox.specs.Commands.{withMarks}
 use Rattle.mailbox.proofs.marks.mark_named.Statement.{statement}
 use Rattle.mailbox.proofs.marks.mark_named.Tie as tie

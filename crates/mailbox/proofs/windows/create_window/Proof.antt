@@ -5,14 +5,14 @@ use native.Mathlib.Omega.{arith}
 use borrow.Author.Needs.{needs}
 use lib.ListN.{length}
 use Rattle.units.specs.Units.{roundUp}
-use Rattle.mailbox.specs.Registers.{number}
+use Rattle.refusals.specs.Registers.{number}
 use Rattle.mailbox.specs.Commands.{Outcome, hint, sizeFor}
 use Rattle.mailbox.proofs.Front.{size-fits, opened-as}
 use Rattle.mailbox.proofs.windows.create_window.Statement.{statement}
 use Rattle.mailbox.proofs.windows.create_window.Tie as tie
 
-word-requires : tie.Need-word-requires
-word-requires c κs = search needs
+read-words-requires : tie.Need-read-words-requires
+read-words-requires c κs = search needs
 
 hinted-requires : tie.Need-hinted-requires
 hinted-requires c κs = search needs
@@ -25,7 +25,7 @@ open-window-requires c κs =
     let a = c .before .before .before .before .before .before .before .args in
     let S = roundUp (length (a .flash .now)) in
     let C = roundUp (length (a .memory .now)) in
-    let first : c .before .before .before .before .word .result ≡ number 2 0 (a .registers) = c .before .before .before .before .word .ensures in
+    let first : c .before .before .before .before .read-words .result .first ≡ number 2 0 (a .registers) = c .before .before .before .before .read-words .ensures .0 in
     let size : c .before .before .window-size .result ≡ sizeFor S C (number 2 0 (a .registers)) (hint (a .session) (a .registers)) =
     c .before .before .window-size .ensures
     ∙ ap (λ (o : ℕ). sizeFor S C o (c .before .before .before .hinted .result)) first
@@ -44,7 +44,7 @@ returns c =
     let a = c .before .before .before .before .before .before .before .before .before .before .before .before .args in
     let S = roundUp (length (a .flash .now)) in
     let C = roundUp (length (a .memory .now)) in
-    let first : c .before .before .before .before .before .before .before .before .before .word .result ≡ number 2 0 (a .registers) = c .before .before .before .before .before .before .before .before .before .word .ensures in
+    let first : c .before .before .before .before .before .before .before .before .before .read-words .result .first ≡ number 2 0 (a .registers) = c .before .before .before .before .before .before .before .before .before .read-words .ensures .0 in
     let size : c .before .before .before .before .before .before .before .window-size .result ≡ sizeFor S C (number 2 0 (a .registers)) (hint (a .session) (a .registers)) =
     c .before .before .before .before .before .before .before .window-size .ensures
     ∙ ap (λ (o : ℕ). sizeFor S C o (c .before .before .before .before .before .before .before .before .hinted .result)) first
@@ -60,7 +60,7 @@ pub create-window-spec : {M : Type 1} → statement M
 create-window-spec =
     tie.close
     (tie.spec
-    word-requires
+    read-words-requires
     hinted-requires
     window-size-requires
     open-window-requires
