@@ -44,21 +44,6 @@ unfolding answerTo
 three-refused board s registers flash memory =
     mediate-as board (withVersion 3 s) registers flash memory System (system board s registers (length flash) (length memory))
 
--- ---- an answer yes or no
-
-module _ (f : Session → Suspension) (after : Suspension → Record) (h : Record) (s : Session) (a : Suspension) (p : s ≡ sessionOf h) (q : a ≡ f s) where
-  called : a ≡ f (sessionOf h)
-  called = q ∙ ap f p
-
-  pub answers-no : not (a .done) ≡ true → record { done = false; held = h } ≡ answerOf (f (sessionOf h) .done) h (after (f (sessionOf h)))
-  answers-no e =
-      sym (ap (λ (b : Bool). answerOf b h (after (f (sessionOf h)))) (ap (λ (y : Suspension). y .done) (sym called) ∙ not-true (a .done) e))
-
-  pub answers-yes : not (a .done) ≡ false → record { done = true; held = after a } ≡ answerOf (f (sessionOf h) .done) h (after (f (sessionOf h)))
-  answers-yes e =
-      ap (λ (y : Suspension). record { done = true; held = after y }) called
-      ∙ sym (ap (λ (b : Bool). answerOf b h (after (f (sessionOf h)))) (ap (λ (y : Suspension). y .done) (sym called) ∙ not-false (a .done) e))
-
 -- ---- the way there and back loses nothing
 
 windows-back : (w : Window) → windowOf (windowNumber w) ≡ w

@@ -7,28 +7,21 @@ use crate::convert::record_of;
 use crate::convert::session_of;
 use flush::Step;
 use flush::advance;
+use session::Suspension;
 use session::resume;
 use session::resume_changed;
 use session::suspend;
 ghost use mathlib.Core.Path.{_≡_};
 ghost use Rattle.flush.specs.Window.{stepCode, stepYes};
-ghost use Rattle.board.specs.Calls.{suspendedRecord, resumedRecord, changedRecord, steppedRecord};
+ghost use Rattle.board.specs.Record.{recordOf, withWindow};
+ghost use Rattle.board.specs.Calls.{answerOf, suspendedRecord, resumedRecord, changedRecord, steppedRecord};
 
 // Flash access is suspended.
 #[no_mangle]
 pub extern "C" fn hiomap_suspend(held: Record) -> Suspended
     ensures { λ r. ⌜ r ≡ suspendedRecord held ⌝ }
 {
-    let answer = suspend(session_of(held));
-    if !answer.done {
-        return Suspended { done: false, held };
-    }
-    let mut next = record_of(answer.session, held.previous);
-    next.window = held.window;
-    Suspended {
-        done: true,
-        held: next,
-    }
+    in_the_same_window(held, suspend(session_of(held)))
 }
 
 // Flash access is resumed, and the flash is as it was.
@@ -36,16 +29,7 @@ pub extern "C" fn hiomap_suspend(held: Record) -> Suspended
 pub extern "C" fn hiomap_resume(held: Record) -> Suspended
     ensures { λ r. ⌜ r ≡ resumedRecord held ⌝ }
 {
-    let answer = resume(session_of(held));
-    if !answer.done {
-        return Suspended { done: false, held };
-    }
-    let mut next = record_of(answer.session, held.previous);
-    next.window = held.window;
-    Suspended {
-        done: true,
-        held: next,
-    }
+    in_the_same_window(held, resume(session_of(held)))
 }
 
 // Flash access is resumed, and the flash was changed meanwhile: the window is dropped.
@@ -54,13 +38,33 @@ pub extern "C" fn hiomap_resume_changed(held: Record) -> Suspended
     ensures { λ r. ⌜ r ≡ changedRecord held ⌝ }
 {
     let answer = resume_changed(session_of(held));
-    if !answer.done {
-        return Suspended { done: false, held };
+    answered(
+        held,
+        answer.done,
+        record_of(answer.session, held.previous),
+    )
+}
+
+// The answer of a call that leaves the window: its number stays, whatever it is.
+fn in_the_same_window(held: Record, answer: Suspension) -> Suspended
+    ensures { λ r. ⌜ r ≡ answerOf (answer .done) held (withWindow (held .window) (recordOf (held .previous) (answer .session))) ⌝ }
+{
+    let mut next = record_of(answer.session, held.previous);
+    next.window = held.window;
+    answered(held, answer.done, next)
+}
+
+// Yes and the record afterwards, or no and the record as it was.
+fn answered(held: Record, done: bool, next: Record) -> Suspended
+    ensures { λ r. ⌜ r ≡ answerOf done held next ⌝ }
+{
+    if done {
+        return Suspended {
+            done: true,
+            held: next,
+        };
     }
-    Suspended {
-        done: true,
-        held: record_of(answer.session, held.previous),
-    }
+    Suspended { done: false, held }
 }
 
 // Advances the flush by one action, from the number of actions already done. Only the flash changes.
