@@ -1,17 +1,16 @@
 -- What the calls over a record rest on: the way there and back, a refused record, and an answer yes or no.
-use mathlib.Core.Path.{_≡_, refl, sym, ap, _∙_}
-use mathlib.Core.Bool.{Bool, true, false, cond, not, _&&_}
+use mathlib.Core.Path.{_≡_, refl, ap, _∙_}
+use mathlib.Core.Bool.{Bool, true, false, cond, _&&_}
 use mathlib.Core.List.{List, []}
 use Prim.Native.Nat.{ℕ, zero, suc, _<_, _≤_}
 use native.Mathlib.Omega.{arith}
 use lib.ListN.{length}
-use borrow.Author.Tests.{le-leb, lt-leb, not-true, not-false}
+use borrow.Author.Tests.{le-leb, lt-leb}
 use Rattle.session.specs.declared.Session.{Session}
 use Rattle.session.specs.declared.Window.{Window}
 use Rattle.session.specs.declared.Window.the-variants.{Closed, Read, Write}
 use Rattle.session.specs.declared.Previous.{Previous}
 use Rattle.session.specs.declared.Previous.the-variants.{Absent, Number}
-use Rattle.session.specs.declared.suspension.Suspension.{Suspension}
 use Rattle.session.specs.Soundness.{sizesSound, sessionSound, sound, soundAt}
 use Rattle.flush.specs.Window.{advanced}
 use Rattle.refusals.specs.declared.Board.{Board}
@@ -22,7 +21,7 @@ use Rattle.mailbox.specs.Mediator.{mediate, answerTo, refused}
 use Rattle.mailbox.proofs.Mediating.{mediate-as}
 use Rattle.board.specs.declared.Record.{Record}
 use Rattle.board.specs.Record.{isWindow, windowOf, windowNumber, previousOf, isNumbered, numberOr, sessionOf, recordOf, withWindow}
-use Rattle.board.specs.Calls.{Left, kept, commanded, systemError, answerOf, steppedRecord}
+use Rattle.board.specs.Calls.{Left, kept, commanded, systemError, steppedRecord}
 
 -- ---- a session of version 3 is refused with SYSTEM_ERROR
 

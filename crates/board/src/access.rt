@@ -38,11 +38,7 @@ pub extern "C" fn hiomap_resume_changed(held: Record) -> Suspended
     ensures { λ r. ⌜ r ≡ changedRecord held ⌝ }
 {
     let answer = resume_changed(session_of(held));
-    answered(
-        held,
-        answer.done,
-        record_of(answer.session, held.previous),
-    )
+    answered(held, answer.done, record_of(answer.session, held.previous))
 }
 
 // The answer of a call that leaves the window: its number stays, whatever it is.

@@ -1,11 +1,11 @@
 -- Laws of a range that is read and of one that is replaced, at any offset and of any size.
 use mathlib.Core.Path.{_≡_, refl, sym, ap, _∙_, subst}
-use mathlib.Core.List.{List, [], _∷_, _++_, append-assoc}
-use Prim.Native.Nat.{ℕ, zero, suc, _+_, _-_, _≤_, _<_}
+use mathlib.Core.List.{List, _++_}
+use Prim.Native.Nat.{ℕ, _+_, _-_, _≤_, _<_}
 use native.Mathlib.Omega.{arith}
 use lib.ListN.{length, getD, take, drop, take-append-drop, length-append, length-drop, List·getD-append}
 use lib.Seq.{drop-drop, length-take-le, take-at, drop-at, drop-append-add, getD-append-add, getD-take, getD-drop}
-use borrow.Rule.Slice.PartMut.{putMid, midOf}
+use borrow.Rule.Slice.PartMut.{putMid}
 use Rattle.buffers.specs.Ranges.{replace, range}
 
 pub range-length : (at n : ℕ) (xs : List ℕ) → at + n ≤ length xs → length (range at n xs) ≡ n

@@ -1,21 +1,20 @@
 -- The flash after a list of actions, byte by byte. An action is a change of each single byte; what the changes of a whole list come to is
 -- said here over the byte's offset x in the window's part, whatever the other bytes are.
-use mathlib.Core.Path.{_≡_, refl, sym, ap, _∙_, subst}
-use mathlib.Core.Bool.{Bool, true, false, cond, _&&_}
+use mathlib.Core.Path.{_≡_, refl, sym, ap, _∙_}
+use mathlib.Core.Bool.{true, false, cond}
 use mathlib.Core.List.{List, [], _∷_, _++_}
 use mathlib.Core.Logic.{_⊎_, inl, inr, ⊎-elim}
-use Prim.Native.Nat.{ℕ, zero, suc, _+_, _-_, _*_, _/_, _%_, _≤_, _<_}
+use Prim.Native.Nat.{ℕ, _+_, _-_, _*_, _/_, _≤_, _<_}
 use native.Mathlib.Omega.{arith}
 use lib.Bits.{bitAnd}
-use lib.Dec.{eqb, leb, ltb}
-use lib.ListN.{length, getD, take, drop, length-append}
-use borrow.Author.Tests.{eq-eqb, ne-eqb, eqb-true, eqb-false, le-leb, lt-ltb}
+use lib.Dec.{eqb}
+use lib.ListN.{length, getD}
+use borrow.Author.Tests.{eqb-true, eqb-false, le-leb, lt-ltb}
 use Rattle.units.proofs.Cases.{decided, below-or}
 use Rattle.units.specs.Units.{toBytes}
-use Rattle.chip.specs.Actions.{hasBlock, eraseBlock, hasPage, programPage, erased, programmed}
+use Rattle.chip.specs.Actions.{hasBlock, erased, programmed}
 use Rattle.chip.proofs.Laws.{erased-length, erased-inside, erased-outside, programmed-length, programmed-inside, programmed-outside}
-use Rattle.flush.specs.Actions.{Action, erase, program, pagesFrom, blockActions, actionsFrom, flushActions, perform, performAll}
-use Rattle.flush.proofs.Lists.{by-mark, perform-append}
+use Rattle.flush.specs.Actions.{Action, erase, program, perform, performAll}
 
 -- what an action makes of the byte at x
 abbrev pub byteAfter : List ℕ → Action → ℕ → ℕ → ℕ

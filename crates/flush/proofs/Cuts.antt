@@ -4,8 +4,7 @@ use mathlib.Core.Path.{_≡_, refl, sym, ap, _∙_, subst}
 use mathlib.Core.Bool.{Bool, true, false, cond, true≢false}
 use mathlib.Core.List.{List, [], _∷_, _++_, append-nil}
 use mathlib.Core.Logic.{_⊎_, inl, inr, ⊎-elim}
-use Prim.Native.Nat.{ℕ, zero, suc, _+_, _-_, _*_, _/_, _%_, _≤_, _<_}
-use native.Mathlib.Nat.{not-suc-le-zero, le-of-suc-le-suc}
+use Prim.Native.Nat.{ℕ, zero, suc, _+_, _-_, _*_, _/_, _≤_, _<_}
 use native.Mathlib.Omega.{arith}
 use lib.Bits.{bitAnd}
 use lib.Dec.{eqb, leb}
@@ -16,7 +15,7 @@ use Rattle.units.proofs.Cases.{decided, below-or, both}
 use Rattle.units.specs.Units.{toBytes}
 use Rattle.session.specs.Soundness.{marksSound}
 use Rattle.flush.specs.Actions.{Action, erase, program, pagesFrom, blockActions, actionsFrom, flushActions, performAll}
-use Rattle.flush.specs.Cut.{blockOf, own, none, Progress, passed, underWork, ahead, progress, blockAt, leaves}
+use Rattle.flush.specs.Cut.{blockOf, own, none, passed, underWork, ahead, progress, blockAt, leaves}
 use Rattle.buffers.proofs.Replace.{range-length, range-at}
 use Rattle.flush.proofs.Lists.{by-mark, perform-none}
 use Rattle.flush.proofs.Bytes.{byteAfter, bytesAfter, bytes-append, In, AllIn, performed-length, performed-byte}

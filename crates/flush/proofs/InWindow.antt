@@ -1,8 +1,8 @@
 -- The window's part of the flash, lent and back.
-use mathlib.Core.Path.{_≡_, refl, sym, ap, _∙_}
+use mathlib.Core.Path.{_≡_, ap, _∙_}
 use mathlib.Core.Bool.{true, false}
 use mathlib.Core.List.{List}
-use Prim.Native.Nat.{ℕ, _+_, _-_, _≤_, _<_}
+use Prim.Native.Nat.{ℕ, _+_, _-_, _≤_}
 use native.Mathlib.Omega.{arith}
 use lib.ListN.{length}
 use borrow.Rule.Slice.PartMut.{putMid, midOf, mid-len}
@@ -14,7 +14,7 @@ use Rattle.flush.specs.Actions.{Action, performAll}
 use Rattle.session.specs.Soundness.{sound}
 use Rattle.flush.specs.declared.window.Step.{Step}
 use Rattle.flush.specs.declared.window.Step.the-variants.{Unsound, Suspended, Acted, Finished}
-use Rattle.flush.specs.Window.{windowActions, windowPart, partEnd, performIn, performStep, stepCode, stepYes, advanced, flushWhole}
+use Rattle.flush.specs.Window.{windowActions, windowPart, performIn, performStep, stepCode, stepYes, advanced, flushWhole}
 
 module _ (s : Session) (memory flash ys : List ℕ) (a n : ℕ) (start : a ≡ toBytes (s .first)) (size : n ≡ toBytes (s .size)) (fits : a + n ≤ length flash)
     (kept : length ys ≡ length (midOf a (a + n - a) flash)) where

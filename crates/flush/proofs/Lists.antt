@@ -1,6 +1,6 @@
 -- Laws of the lists of actions: how they grow, how many they are, and which comes after the first so many.
 use mathlib.Core.Path.{_≡_, refl, sym, ap, _∙_}
-use mathlib.Core.Bool.{Bool, true, false, cond}
+use mathlib.Core.Bool.{true, false, cond}
 use mathlib.Core.List.{List, [], _∷_, _++_, append-assoc, append-nil}
 use mathlib.Core.Logic.{⊎-elim}
 use Prim.Native.Nat.{ℕ, zero, suc, _+_, _-_, _*_, _≤_, _<_}
@@ -11,7 +11,7 @@ use lib.Dec.{eqb}
 use lib.ListN.{length, getD, take, drop, length-append, length-drop}
 use lib.Seq.{take-suc, take-append-le, drop-append-le, drop-append-add, split-at, length-take-le}
 use borrow.Author.Tests.{eq-eqb, ne-eqb, eqb-true}
-use Rattle.units.proofs.Cases.{decided, below-or}
+use Rattle.units.proofs.Cases.{decided}
 use Rattle.flush.specs.Actions.{Action, erase, program, marksOf, pagesFrom, blockActions, actionsFrom, flushActions, perform, performAll}
 use Rattle.chip.specs.Actions.{eraseBlock, programPage}
 use Rattle.flush.specs.Locate.{nthOf}

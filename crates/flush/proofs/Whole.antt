@@ -1,23 +1,22 @@
 -- The window's part and the rest of the flash: what actions in the window leave of the whole flash, one list of actions after another, and
 -- a flush that is run to its end after a cut.
-use mathlib.Core.Path.{_≡_, refl, sym, ap, _∙_, subst}
-use mathlib.Core.Bool.{Bool, true, false}
-use mathlib.Core.List.{List, [], _∷_, _++_}
-use mathlib.Core.Logic.{_⊎_, inl, inr, ⊎-elim}
-use Prim.Native.Nat.{ℕ, zero, suc, _+_, _-_, _*_, _/_, _≤_, _<_}
+use mathlib.Core.Path.{_≡_, refl, sym, ap, _∙_}
+use mathlib.Core.Bool.{true}
+use mathlib.Core.List.{List, [], _++_}
+use mathlib.Core.Logic.{_⊎_, ⊎-elim}
+use Prim.Native.Nat.{ℕ, _+_, _-_, _/_, _≤_, _<_}
 use native.Mathlib.Omega.{arith}
-use lib.Dec.{eqb}
-use lib.ListN.{length, getD, take, drop}
+use lib.ListN.{length, getD, take}
 use Rattle.units.specs.Units.{toBytes}
 use Rattle.buffers.specs.Ranges.{range, replace}
-use Rattle.buffers.proofs.Replace.{range-length, range-at, range-replace, replace-same, replace-again, replace-length, replace-before, replace-after}
+use Rattle.buffers.proofs.Replace.{range-length, range-replace, replace-same, replace-again, replace-length, replace-before, replace-after}
 use Rattle.session.specs.declared.Session.{Session}
 use Rattle.session.specs.Soundness.{marksSound}
-use Rattle.flush.specs.Actions.{Action, flushActions, performAll}
+use Rattle.flush.specs.Actions.{Action, performAll}
 use Rattle.flush.specs.Window.{windowActions, windowPart, partEnd, performIn}
 use Rattle.flush.proofs.Lists.{perform-none, perform-append}
 use Rattle.flush.proofs.Bytes.{AllIn, performed-length}
-use Rattle.flush.proofs.Cuts.{all-append, all-take, all-flush, cut-clean, flush-same, Alike}
+use Rattle.flush.proofs.Cuts.{all-append, all-take, all-flush, cut-clean, flush-same}
 
 in-is : (s : Session) (memory : List ℕ) (actions : List Action) (flash : List ℕ)
     → performIn s memory actions flash ≡ replace (toBytes (s .first)) (performAll memory actions (windowPart s flash)) flash

@@ -1,18 +1,17 @@
 -- Laws of `encode`: what the definition says without its bound, and what a write leaves.
-use mathlib.Core.Path.{_≡_, refl, sym, ap, _∙_, subst}
-use mathlib.Core.Bool.{Bool, true, false, cond}
+use mathlib.Core.Path.{_≡_, refl, sym, ap, _∙_}
+use mathlib.Core.Bool.{Bool, true, false}
 use mathlib.Core.List.{List, [], _∷_, _++_, append-assoc}
-use mathlib.Core.Logic.{_⊎_, inl, inr, ⊎-elim}
-use Prim.Native.Nat.{ℕ, zero, suc, _+_, _-_, _*_, _/_, _%_, _≤_, _<_}
+use mathlib.Core.Logic.{_⊎_, ⊎-elim}
+use Prim.Native.Nat.{ℕ, zero, suc, _+_, _-_, _/_, _%_, _≤_, _<_}
 use Rattle.units.proofs.Cases.{below-or, decided}
 use native.Mathlib.Numerals.{add-one}
 use native.Mathlib.Omega.{arith}
-use lib.Dec.{leb, ltb}
+use lib.Dec.{leb}
 use lib.ListN.{length, getD, set, take, drop}
-use lib.Seq.{set-split, set-at, take-suc, length-take-le, append-snoc}
-use borrow.Author.Tests.{lt-ltb, le-ltb, le-leb, lt-leb, leb-true, leb-false}
+use lib.Seq.{set-split, set-at, take-suc, length-take-le}
+use borrow.Author.Tests.{lt-ltb, le-ltb, le-leb, lt-leb}
 use Rattle.buffers.specs.Ranges.{replace}
-use Rattle.leb128.specs.declared.Written.{Written}
 use Rattle.leb128.specs.declared.Written.the-variants.{Next, NoRoom}
 use Rattle.leb128.specs.Groups.{groups, encode, writtenAt, bytesAfter}
 

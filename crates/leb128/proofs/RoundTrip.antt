@@ -1,8 +1,8 @@
 -- The reader's and the writer's definitions agree: the reader accepts exactly the encodings of numbers below 2^32, a number that was
 -- written is read back, and a number that was read is written back over its own bytes.
 use mathlib.Core.Path.{_≡_, refl, sym, ap, _∙_, subst}
-use mathlib.Core.Bool.{Bool, true, false, cond}
-use mathlib.Core.List.{List, [], _∷_, _++_, append-assoc}
+use mathlib.Core.Bool.{true, false}
+use mathlib.Core.List.{List, [], _∷_, _++_}
 use mathlib.Core.Logic.{_↔_, ⊎-elim}
 use Prim.Native.Nat.{ℕ, zero, suc, _+_, _-_, _*_, _/_, _%_, _^_, _≤_, _<_}
 use native.Mathlib.Numerals.{add-one}
@@ -13,8 +13,7 @@ use lib.Seq.{length-take-le, drop-at, take-at, drop-drop, getD-drop}
 use borrow.Author.Tests.{lt-ltb, le-ltb, ne-eqb, le-leb, ltb-true, leb-true, eqb-false}
 use Rattle.buffers.specs.Ranges.{range, replace}
 use Rattle.units.proofs.Cases.{below-or, decided}
-use Rattle.leb128.specs.declared.Read.{Read}
-use Rattle.leb128.specs.declared.Read.the-variants.{Number, Short, Malformed}
+use Rattle.leb128.specs.declared.Read.the-variants.{Number, Malformed}
 use Rattle.leb128.specs.declared.Written.the-variants.{Next, NoRoom}
 use Rattle.leb128.specs.Groups.{groups, encode, Decoded, found, cutShort, notShortest, before, decode, bounded, readAt, writtenAt, bytesAfter}
 use Rattle.leb128.proofs.Encode.{encode-small, encode-large, encode-some}

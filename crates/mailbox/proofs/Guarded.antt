@@ -1,14 +1,14 @@
 -- The flush of a command that no check refused always has a sound session, so `flushWhole` never stands aside: FLUSH with its own marks, and
 -- the closing of a window by a create or a close.
 use mathlib.Core.Path.{_≡_, refl, sym, ap, _∙_}
-use mathlib.Core.Bool.{Bool, true, false, cond, not, _&&_, false≢true}
+use mathlib.Core.Bool.{Bool, true, false, cond, false≢true}
 use mathlib.Core.List.{List, [], _∷_, _++_}
 use mathlib.Core.Logic.{⊎-elim}
 use Prim.Native.Nat.{ℕ, zero, suc, _+_, _≤_}
 use native.Mathlib.Omega.{arith}
 use native.Mathlib.Nat.{not-suc-le-zero, le-of-suc-le-suc}
-use lib.Dec.{leb, eqb}
-use lib.ListN.{length, take, drop, replicate, length-replicate}
+use lib.Dec.{leb}
+use lib.ListN.{take, drop, replicate, length-replicate}
 use lib.Seq.{drop-drop}
 use borrow.Author.Tests.{not-false}
 use Rattle.units.proofs.Cases.{decided, both}
@@ -22,7 +22,7 @@ use Rattle.flush.specs.Actions.{dirty}
 use Rattle.refusals.specs.declared.Board.{Board}
 use Rattle.refusals.specs.declared.Reason.the-variants.{Accepted}
 use Rattle.refusals.specs.Registers.{commandOf}
-use Rattle.refusals.specs.Refusals.{blocksNamed, flushMarks, isWrite, windowless, reasonFor}
+use Rattle.refusals.specs.Refusals.{blocksNamed, flushMarks, isWrite, reasonFor}
 use Rattle.mailbox.specs.Commands.{marked}
 use Rattle.mailbox.specs.Mediator.{numbered}
 use Rattle.refusals.proofs.Accepting.{passed, measured, named-within, flush-argument}

@@ -1,7 +1,7 @@
 -- The commands, in the published order: document 01, "Commands". The session of each is that of an answered command: its number is the
 -- previous one already.
 use Prim.Native.Nat.{ℕ, _+_, _-_, min}
-use mathlib.Core.Bool.{Bool, cond}
+use mathlib.Core.Bool.{cond}
 use mathlib.Core.List.{List, [], _∷_, _++_}
 use lib.Dec.{eqb, ltb}
 use lib.ListN.{length, replicate}

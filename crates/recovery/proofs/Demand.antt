@@ -1,31 +1,28 @@
 -- Demand 3, whole: `demand-3`, over the definitions that the contracts cite.
 use mathlib.Core.Path.{_≡_, refl, sym, ap, _∙_, subst}
-use mathlib.Core.Bool.{Bool, true, false, cond, _&&_, not}
+use mathlib.Core.Bool.{true, false, _&&_, not}
 use mathlib.Core.List.{List}
-use mathlib.Core.Logic.{⊎-elim}
 use Prim.Native.Nat.{ℕ, _≤_, min}
 use native.Mathlib.Omega.{arith}
 use lib.Dec.{ltb, eqb}
-use lib.ListN.{length, getD, take}
-use Rattle.units.proofs.Cases.{decided}
+use lib.ListN.{length}
 use Rattle.units.specs.Units.{toBytes}
 use Rattle.session.specs.declared.Session.{Session}
 use Rattle.session.specs.declared.Window.the-variants.{Write}
 use Rattle.session.specs.Record.{fresh}
-use Rattle.session.specs.Soundness.{marksSound, sound, soundAt}
+use Rattle.session.specs.Soundness.{sound, soundAt}
 use Rattle.session.specs.Suspension.{resumed}
-use Rattle.session.proofs.Facts.{sizes, fitting, part-within}
-use Rattle.flush.specs.Actions.{Action, flushActions}
+use Rattle.session.proofs.Facts.{part-within}
+use Rattle.flush.specs.Actions.{flushActions}
 use Rattle.flush.specs.Window.{windowActions, performIn}
 use Rattle.flush.proofs.Whole.{in-same, after-cut}
 use Rattle.refusals.specs.declared.Board.{Board}
-use Rattle.refusals.specs.Refusals.{flushMarks}
 use Rattle.refusals.specs.Registers.{argument, number}
 use Rattle.mailbox.specs.Commands.{withVersion}
 use Rattle.mailbox.specs.Mediator.{numbered}
 use Rattle.refusals.proofs.Accepting.{measured}
-use Rattle.recovery.specs.Cut.{Event, State, cut, start, Kept, AtCut}
-use Rattle.recovery.specs.Second.{Machine, sent, Way, bySteps, byFlush, Succeeds, flashAfter, begun, agreeing, opening, marking, SecondRun, StepsSucceed, secondEnd, secondFlash, unstopped, AddsNone, unstoppedFlash}
+use Rattle.recovery.specs.Cut.{Event, cut, start, Kept, AtCut}
+use Rattle.recovery.specs.Second.{Machine, Way, bySteps, byFlush, Succeeds, flashAfter, agreeing, opening, SecondRun, StepsSucceed, secondEnd, secondFlash, unstopped, AddsNone, unstoppedFlash}
 use Rattle.recovery.proofs.FirstList.{sound-as, marks-sound, Running, begins, runs, says, session-after, block-at, finished-at, old-at, other-at, length-at, resumed-kept, resume-said, steps-flash, steps-said}
 use Rattle.recovery.proofs.SecondList.{info-leaves, create-opens, Open, calls-open, flush-leaves}
 

@@ -1,10 +1,9 @@
 -- The first list: whatever it is, the first j actions stand and the others do not.
 use mathlib.Core.Path.{_≡_, refl, sym, ap, _∙_, subst}
-use mathlib.Core.Bool.{Bool, true, false, cond, not, _&&_, _||_, true≢false}
+use mathlib.Core.Bool.{Bool, true, false, cond, not, _||_, true≢false}
 use mathlib.Core.List.{List, [], _∷_, _++_, append-nil}
 use mathlib.Core.Logic.{_⊎_, inl, inr, ⊎-elim}
 use Prim.Native.Nat.{ℕ, zero, suc, _+_, _-_, _/_, _≤_, _<_}
-use native.Mathlib.Nat.{le-trans}
 use native.Mathlib.Omega.{arith}
 use lib.Dec.{ltb, leb, eqb}
 use lib.ListN.{length, getD, take, drop, replicate, drop-of-length-le}
@@ -16,7 +15,7 @@ use Rattle.session.specs.declared.Session.{Session}
 use Rattle.session.specs.declared.Window.{Window}
 use Rattle.session.specs.declared.Window.the-variants.{Write}
 use Rattle.session.specs.Record.{setBits, clearBits}
-use Rattle.session.specs.Soundness.{marksSound, markable, windowSound, sizesSound, sessionSound, sound}
+use Rattle.session.specs.Soundness.{marksSound, markable, sizesSound, sessionSound, sound}
 use Rattle.session.specs.declared.suspension.Suspension.{Suspension}
 use Rattle.session.specs.Suspension.{controlLost, withAccess, answer as saying, suspended, resumed}
 use Rattle.session.proofs.Facts.{sizes, fitting, part-within}

@@ -1,14 +1,12 @@
 -- The second run: what each of its calls leaves.
 use mathlib.Core.Path.{_≡_, refl, sym, ap, _∙_, subst}
-use mathlib.Core.Bool.{Bool, true, false, cond, not, _&&_, _||_}
+use mathlib.Core.Bool.{Bool, true, false, cond}
 use mathlib.Core.List.{List, [], _∷_}
-use mathlib.Core.Logic.{_⊎_, inl, inr, ⊎-elim}
-use Prim.Native.Nat.{ℕ, _+_, _≤_, _<_, min}
-use native.Mathlib.Nat.{le-trans}
+use mathlib.Core.Logic.{_⊎_, inr, ⊎-elim}
+use Prim.Native.Nat.{ℕ, _+_, _≤_, min}
 use native.Mathlib.Omega.{arith}
-use lib.Dec.{ltb, eqb}
-use lib.ListN.{length, getD, replicate, length-replicate}
-use borrow.Author.Tests.{ne-eqb, le-ltb}
+use lib.Dec.{ltb}
+use lib.ListN.{length, getD}
 use Rattle.units.specs.Units.{toBytes, roundUp}
 use Rattle.units.proofs.Cases.{decided}
 use Rattle.buffers.specs.Ranges.{range, replace}
@@ -16,24 +14,24 @@ use Rattle.buffers.proofs.Replace.{range-length, replace-length}
 use Rattle.chip.specs.Actions.{erased}
 use Rattle.chip.proofs.Laws.{erased-length}
 use Rattle.session.specs.declared.Session.{Session}
-use Rattle.session.specs.declared.Window.the-variants.{Closed, Write}
+use Rattle.session.specs.declared.Window.the-variants.{Write}
 use Rattle.session.specs.Record.{clean, fresh}
 use Rattle.session.specs.Soundness.{sound, sessionSound}
 use Rattle.session.proofs.Facts.{part-within}
 use Rattle.flush.specs.Actions.{Action, dirty, erasedMark, flushActions, actionsFrom, blockActions}
-use Rattle.flush.specs.Window.{windowActions, partEnd, performIn, flushWhole}
+use Rattle.flush.specs.Window.{windowActions, performIn, flushWhole}
 use Rattle.flush.proofs.Whole.{in-none}
 use Rattle.refusals.specs.declared.Board.{Board}
 use Rattle.refusals.specs.declared.Reason.{Reason}
 use Rattle.refusals.specs.declared.Reason.the-variants.{Accepted, System, Repeated, Unknown, Suspended, Windowless, Argument}
 use Rattle.refusals.specs.Registers.{commandOf, argument, number}
 use Rattle.refusals.specs.Refusals.{blocksNamed, flushMarks, reasonFor, codeFor}
-use Rattle.mailbox.specs.Commands.{Outcome, withVersion, sizeFor, closing, hint, marked, created, flushedWith, flushed}
+use Rattle.mailbox.specs.Commands.{Outcome, withVersion, sizeFor, closing, hint, marked, created, flushedWith}
 use Rattle.mailbox.specs.Mediator.{numbered, isCreate, refused, served, answerTo, mediate}
 use Rattle.refusals.proofs.Accepting.{Passed, passed, Measured, measured, named-within, create-argument, mark-argument}
 use Rattle.mailbox.proofs.Mediating.{mediate-as}
 use Rattle.mailbox.proofs.Front.{size-fits}
-use Rattle.recovery.specs.Second.{Machine, response, sent, Call, send, write, Allowed, AllAllowed, called, calledAll, begun, agreeing, opening, marking}
+use Rattle.recovery.specs.Second.{Machine, response, sent, Call, send, write, Allowed, AllAllowed, called, calledAll, begun}
 
 -- ---- a response of 1 is that of a command that no check refused
 module _ (board : Board) (s : Session) (registers flash memory : List ℕ) where

@@ -9,7 +9,7 @@ use Rattle.units.specs.Units.{blockBytes, toBytes}
 use Rattle.session.specs.declared.Session.{Session}
 use Rattle.session.specs.Suspension.{suspended, resumed}
 use Rattle.flush.specs.Actions.{dirty, erasedMark}
-use Rattle.flush.specs.Cut.{Progress, passed, ahead, progress, blockAt, leaves}
+use Rattle.flush.specs.Cut.{passed, ahead, progress, blockAt, leaves}
 use Rattle.flush.specs.Window.{windowActions, windowPart, partEnd, advanced}
 
 -- "any list of flush steps, suspends and resumes without changed flash"

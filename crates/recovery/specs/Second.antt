@@ -1,6 +1,6 @@
 -- The second run of demand 3, and the flush never stopped: document 01, the last paragraph of "Chip actions".
 use Prim.Native.Nat.{ℕ, _+_, _/_, _≤_}
-use mathlib.Core.Bool.{Bool, true, false}
+use mathlib.Core.Bool.{true, false}
 use mathlib.Core.List.{List, [], _∷_}
 use mathlib.Core.Logic.{_⊎_}
 use mathlib.Core.Path.{_≡_}
@@ -15,7 +15,7 @@ use Rattle.refusals.specs.declared.Board.{Board}
 use Rattle.refusals.specs.Registers.{commandOf}
 use Rattle.refusals.specs.Refusals.{flushMarks}
 use Rattle.mailbox.specs.Mediator.{mediate}
-use Rattle.recovery.specs.Cut.{Said, stepped, step, afterAll, answers, actionsOf, start}
+use Rattle.recovery.specs.Cut.{stepped, step, afterAll, answers, actionsOf, start}
 
 -- the session and both buffers between two calls
 pub record Machine : Type 0 where

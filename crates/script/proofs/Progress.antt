@@ -14,7 +14,7 @@ use Rattle.session.specs.declared.Session.{Session}
 use Rattle.refusals.specs.declared.Board.{Board}
 use Rattle.script.specs.declared.Item.{Item}
 use Rattle.script.specs.declared.Kind.{Kind}
-use Rattle.script.specs.declared.Kind.the-variants.{Command, Fill, Suspend, Resume, ResumeChanged, Malformed as Bad}
+use Rattle.script.specs.declared.Kind.the-variants.{Malformed as Bad}
 use Rattle.script.specs.Records.{bad, withNumber, upTo, valuesAt, commandAt, fillAt, ofKind, recordAt}
 use Rattle.script.specs.Effects.{effectOf, effect}
 

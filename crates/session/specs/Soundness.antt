@@ -1,6 +1,6 @@
 -- Soundness: document 01, "Numbers" and the second paragraph of "Session".
 use Prim.Native.Nat.{ℕ, zero, suc, _+_}
-use mathlib.Core.Bool.{Bool, true, false, _&&_}
+use mathlib.Core.Bool.{Bool, true, _&&_}
 use mathlib.Core.List.{List, [], _∷_}
 use lib.Dec.{leb, eqb}
 use Rattle.units.specs.Units.{toBytes, roundUp}

@@ -1,7 +1,6 @@
 -- Laws of the two conversions. What depends on the size of a number is stated over its width in bits.
 use mathlib.Core.Path.{_≡_, subst}
 use Prim.Native.Nat.{ℕ, _+_, _*_, _^_, _≤_, _<_}
-use native.Mathlib.Nat.{le-trans}
 use native.Mathlib.Omega.{arith}
 use lib.Pow.{shl-lt, pow-add, pow-mono}
 use Rattle.units.specs.Units.{toBytes, roundUp, toBlocks}
