@@ -68,11 +68,16 @@ typedef struct hiomap_stepped {
     bool acted;
 } hiomap_stepped;
 
-_Static_assert(sizeof(hiomap_record) == 74 && offsetof(hiomap_record, first) == 6 && offsetof(hiomap_record, marks) == 10,
-               "hiomap_record is laid out as the library has it");
-_Static_assert(sizeof(hiomap_suspended) == 76 && offsetof(hiomap_suspended, record) == 2,
-               "hiomap_suspended is laid out as the library has it");
-_Static_assert(sizeof(hiomap_stepped) == 2, "hiomap_stepped is laid out as the library has it");
+/* Each field stands where the library has it. */
+_Static_assert(offsetof(hiomap_record, version) == 0 && offsetof(hiomap_record, numbered) == 1, "hiomap_record");
+_Static_assert(offsetof(hiomap_record, previous) == 2 && offsetof(hiomap_record, events) == 3, "hiomap_record");
+_Static_assert(offsetof(hiomap_record, suspended) == 4 && offsetof(hiomap_record, window) == 5, "hiomap_record");
+_Static_assert(offsetof(hiomap_record, first) == 6 && offsetof(hiomap_record, size) == 8, "hiomap_record");
+_Static_assert(offsetof(hiomap_record, marks) == 10 && sizeof(hiomap_record) == 74, "hiomap_record");
+_Static_assert(offsetof(hiomap_suspended, record) == 2 && sizeof(hiomap_suspended) == 76, "hiomap_suspended");
+_Static_assert(offsetof(hiomap_stepped, acted) == 1 && sizeof(hiomap_stepped) == 2, "hiomap_stepped");
+_Static_assert(offsetof(hiomap_bytes, length) == sizeof(uint8_t *), "hiomap_bytes");
+_Static_assert(offsetof(hiomap_const_bytes, length) == sizeof(uint8_t *), "hiomap_const_bytes");
 
 /* A fresh session: version 0, event byte 0x81, no window. */
 hiomap_record hiomap_fresh(void);
