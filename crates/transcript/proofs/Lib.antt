@@ -1,0 +1,3 @@
+mod Decimal
+mod FlashLine
+mod Written
