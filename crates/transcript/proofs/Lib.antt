@@ -1,3 +1,6 @@
 mod Decimal
 mod FlashLine
-mod Written
+mod Runs
+mod Turns
+mod Wholes
+pub mod Written

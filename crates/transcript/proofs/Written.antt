@@ -1,11 +1,11 @@
 -- Laws of the bytes that are written into a text.
 use mathlib.Core.Path.{_≡_, refl, sym, ap, subst, _∙_}
-use mathlib.Core.List.{List, [], _∷_, _++_}
+use mathlib.Core.List.{List, [], _∷_, _++_, append-nil, append-assoc}
 use Prim.Native.Nat.{ℕ, suc, _+_, _≤_, _<_}
 use native.Mathlib.Omega.{arith}
 use native.Mathlib.Numerals.{add-one}
-use lib.ListN.{length, getD, set, drop, drop-of-length-le, length-append}
-use lib.Seq.{drop-cons}
+use lib.ListN.{length, getD, set, take, drop, drop-of-length-le, length-append, length-set}
+use lib.Seq.{drop-cons, take-suc-set}
 use Rattle.transcript.specs.Printing.{written}
 
 -- the next byte of a part, and the bytes behind it
@@ -44,9 +44,42 @@ written-append at (x ∷ xs) ys text =
     behind : at + 1 + length xs ≡ at + suc (length xs)
     behind = omega arith
 
+-- where there is room, the text has the bytes at their places
+front-at : (at : ℕ) (xs text : List ℕ) → at + length xs ≤ length text → take (at + length xs) (written at xs text) ≡ take at text ++ xs
+unfolding written
+front-at at [] text h = ap (λ (n : ℕ). take n text) here ∙ sym (append-nil (take at text))
+  where
+    here : at + 0 ≡ at
+    here = omega arith
+front-at at (x ∷ xs) text h =
+    ap (λ (n : ℕ). take n (written (at + 1) xs (set text at x))) behind
+    ∙ front-at (at + 1) xs (set text at x) (rw length-set room)
+    ∙ ap (λ (n : ℕ). take n (set text at x) ++ xs) (add-one at)
+    ∙ ap (λ (t : List ℕ). t ++ xs) (take-suc-set text at x (omega arith))
+    ∙ append-assoc (take at text) (x ∷ []) xs
+  where
+    behind : at + suc (length xs) ≡ at + 1 + length xs
+    behind = omega arith
+
+    room : at + 1 + length xs ≤ length text
+    room = omega arith
+
+pub written-front : (xs text : List ℕ) → length xs ≤ length text → take (length xs) (written 0 xs text) ≡ xs
+written-front xs text h = ap (λ (n : ℕ). take n (written 0 xs text)) front ∙ front-at 0 xs text (omega arith)
+  where
+    front : length xs ≡ 0 + length xs
+    front = omega arith
+
 -- what a call leaves that puts bytes from a place on: the place past them, and the text
 abbrev pub Put : ℕ → List ℕ → List ℕ → ℕ → List ℕ → Type 0
 Put at xs text end after = (end ≡ at + length xs) × (after ≡ written at xs text)
+
+-- from the front on
+pub at-front : (end n : ℕ) → end ≡ n → end ≡ 0 + n
+at-front end n e = omega arith
+
+pub from-front : (end n : ℕ) → end ≡ 0 + n → end ≡ n
+from-front end n e = omega arith
 
 -- two such calls, one behind the other
 pub joined : (at middle end : ℕ) (xs ys before between after : List ℕ) → Put at xs before middle between → Put middle ys between end after

@@ -19,25 +19,22 @@ ghost use Rattle.transcript.specs.Run.{bench, runFrom, transcript};
 ghost use Rattle.session.specs.Record.{fresh};
 
 // The most bytes of input.
-pub const MOST_INPUT: usize = 16384;
-
-// The most bytes of text: a line of 48 for each byte of input, `bad input at 16383`, and the flash line.
-pub const MOST_TEXT: usize = 786477;
+const MOST_INPUT: usize = 16384;
 
 // Runs an input. Its text stands at the front of the buffer, as far as there is room, and its length is
-// answered.
+// answered: a line of 48 bytes for each byte of input and the flash line at most.
 pub fn run(input: &[u8], text: &mut [u8]) -> usize
     ensures { λ r. ⌜ (r ≡ length (transcript (now (input .entry))))
         × (now (text .exit) ≡ written 0 (transcript (now (input .entry))) (now (text .entry)))
-        × (r ≤ 786477) ⌝ }
+        × (r ≤ 786522) ⌝ }
 {
     if MOST_INPUT < input.len() {
         return put(text, 0, b"too long\n");
     }
     let mut flash = [0xffu8; 16384];
     let mut memory = [0xffu8; 8192];
-    let length = run_records(input, &mut flash, &mut memory, text);
-    put_flash(text, length, &flash)
+    let end = run_records(input, &mut flash, &mut memory, text);
+    put_flash(text, end, &flash)
 }
 
 // Runs the records, up to the first that breaks a rule, on a fresh session.
@@ -46,26 +43,26 @@ fn run_records(input: &[u8], flash: &mut [u8], memory: &mut [u8], text: &mut [u8
     ensures { λ r. ⌜ (r ≡ length (runFrom (length (now (input .entry))) bench (now (input .entry)) 0 fresh (now (flash .entry)) (now (memory .entry)) .text))
         × (now (text .exit) ≡ written 0 (runFrom (length (now (input .entry))) bench (now (input .entry)) 0 fresh (now (flash .entry)) (now (memory .entry)) .text) (now (text .entry)))
         × (now (flash .exit) ≡ runFrom (length (now (input .entry))) bench (now (input .entry)) 0 fresh (now (flash .entry)) (now (memory .entry)) .flash)
-        × (r ≤ 786451) ⌝ }
+        × (r ≤ 786432) ⌝ }
 {
     let board = Board {
         lpc: 16,
         timeout: 8,
     };
     let mut session = new_session();
-    let mut length = 0;
+    let mut end = 0;
     let mut at = 0;
     while at < input.len() {
         let item = read_record(input, at);
         let served = serve(item, session, board, flash, memory);
         if !served.good {
-            return put_bad(text, length, at);
+            return put_bad(text, end, at);
         }
         let kind = item.kind;
         let registers = served.registers;
-        length = put_answer(text, length, kind, registers);
+        end = put_answer(text, end, kind, registers);
         session = served.session;
         at = item.next;
     }
-    length
+    end
 }

@@ -1,7 +1,7 @@
 -- `transcript::printing::put_flash` meets its contract.
-use mathlib.Core.Path.{_≡_, refl, sym, ap, _∙_}
-use mathlib.Core.List.{List, [], _∷_, _++_, append-assoc}
-use Prim.Native.Nat.{ℕ, suc, _+_, _-_, _*_, _≤_}
+use mathlib.Core.Path.{_≡_, refl, ap, _∙_}
+use mathlib.Core.List.{List, [], _∷_}
+use Prim.Native.Nat.{ℕ, _+_, _-_, _*_, _≤_}
 use native.Mathlib.Omega.{arith}
 use borrow.Author.Needs.{needs}
 use lib.ListN.{length}
@@ -51,8 +51,8 @@ loop-again c =
       search needs,
       refl,
       left-put (first .result) (countsLeft 0 (a .flash .now)) (first .last .0) (l .end) (countText (l .block) (a .flash .now)) (countsLeft (l .block + 1) (a .flash .now)) (l .text) (n .result) (n .last .0)
-      (left-as (first .result) (countsLeft 0 (a .flash .now)) (first .last .0) (l .end) _ _ (l .text) (counts-more (l .block) (a .flash .now) h) (l .inv .4))
-      (n .ensures .0, n .ensures .1),
+          (left-as (first .result) (countsLeft 0 (a .flash .now)) (first .last .0) (l .end) _ _ (l .text) (counts-more (l .block) (a .flash .now) h) (l .inv .4))
+          (n .ensures .0, n .ensures .1),
     )
 
 slice-aggregate-put-2 : tie.Need-slice-aggregate-put-2 Inv-loop μ-loop
