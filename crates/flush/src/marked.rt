@@ -11,9 +11,9 @@ ghost use Rattle.flush.specs.Actions.{pagesFrom, blockActions, flushActi
 ghost use Rattle.flush.specs.Locate.{Located, nthOf};
 
 // The marks that ask for actions.
-const DIRTY: u8 = 1;
+pub const DIRTY: u8 = 1;
 
-const ERASED: u8 = 2;
+pub const ERASED: u8 = 2;
 
 // How many actions each asks for.
 const DIRTY_ACTIONS: u32 = 17;

@@ -16,6 +16,7 @@ use refusals::Board;
 use refusals::Reason;
 use refusals::code_for;
 use refusals::reason_for;
+use registers::NONE;
 use registers::answer;
 use session::Previous;
 use session::Session;
@@ -102,7 +103,7 @@ fn serve(
 fn refuse(session: Session, registers: [u8; 16], code: u8) -> Answer
     ensures { λ r. ⌜ r ≡ answered session registers code [] 0 ⌝ }
 {
-    answer(session, registers, code, [0; 11], 0)
+    answer(session, registers, code, NONE, 0)
 }
 
 // A refusal that makes the number the previous one.

@@ -1,7 +1,10 @@
 // MARK_DIRTY, ERASE, FLUSH and ACK.
 use crate::Answer;
+use crate::registers::NONE;
 use crate::registers::answer;
 use buffers::fill;
+use flush::DIRTY;
+use flush::ERASED;
 use flush::flush_window;
 use refusals::blocks_named;
 use refusals::flush_marks;
@@ -17,14 +20,6 @@ ghost use Rattle.units.specs.Units.{toBytes};
 ghost use Rattle.session.specs.Record.{clean};
 ghost use Rattle.refusals.specs.Refusals.{blocksNamed, flushMarks};
 ghost use Rattle.mailbox.specs.Commands.{marked, withMarks, dirtyAnswer, flushedWith, flushed, ackAnswer, erasedOutcome};
-
-// The marks of a dirty and of an erased block.
-const DIRTY: u8 = 1;
-
-const ERASED: u8 = 2;
-
-// No argument.
-const NONE: [u8; 11] = [0; 11];
 
 // The named blocks are marked dirty.
 pub(crate) fn mark_dirty(session: Session, registers: [u8; 16]) -> Answer

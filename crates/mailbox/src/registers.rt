@@ -5,6 +5,9 @@ ghost use mathlib.Core.Path.{_≡_};
 ghost use Rattle.refusals.specs.Registers.{reply};
 ghost use Rattle.mailbox.specs.Commands.{answerWith};
 
+// No argument.
+pub(crate) const NONE: [u8; 11] = [0; 11];
+
 // The registers after a command, from those received.
 fn replied(registers: [u8; 16], code: u8, arguments: [u8; 11], events: u8) -> [u8; 16]
     ensures { λ r. ⌜ r ≡ reply registers code arguments events ⌝ }

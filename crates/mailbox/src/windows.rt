@@ -1,5 +1,6 @@
 // RESET, CREATE_READ_WINDOW, CREATE_WRITE_WINDOW and CLOSE_WINDOW.
 use crate::Answer;
+use crate::registers::NONE;
 use crate::registers::answer;
 use buffers::copy;
 use flush::flush_window;
@@ -19,9 +20,6 @@ ghost use Rattle.units.specs.Units.{toBytes, roundUp};
 ghost use Rattle.session.specs.Record.{dropWindow};
 ghost use Rattle.refusals.specs.Registers.{number};
 ghost use Rattle.mailbox.specs.Commands.{answered, resetAnswer, closing, withWindow, sizeFor, createArguments, opened, created};
-
-// No argument.
-const NONE: [u8; 11] = [0; 11];
 
 // The window and its marks are dropped, without a flush.
 pub(crate) fn reset(session: Session, registers: [u8; 16]) -> Answer
