@@ -3,9 +3,9 @@ use mathlib.Core.Path.{_≡_, refl, sym, ap, _∙_, subst}
 use mathlib.Core.List.{List, _++_}
 use Prim.Native.Nat.{ℕ, _+_, _-_, _≤_, _<_}
 use native.Mathlib.Omega.{arith}
-use lib.ListN.{length, getD, take, drop, take-append-drop, length-append, length-drop, List·getD-append}
+use lib.ListN.{length, getD, take, drop, replicate, length-replicate, take-append-drop, length-append, length-drop, List·getD-append}
 use lib.Seq.{drop-drop, length-take-le, take-at, drop-at, drop-append-add, getD-append-add, getD-take, getD-drop}
-use borrow.Rule.Slice.PartMut.{putMid}
+use borrow.Rule.Slice.PartMut.{putMid, midOf, mid-len}
 use Rattle.buffers.specs.Ranges.{replace, range}
 
 pub range-length : (at n : ℕ) (xs : List ℕ) → at + n ≤ length xs → length (range at n xs) ≡ n
@@ -18,6 +18,16 @@ range-at at n xs j h = getD-take n (drop at xs) j 0 h ∙ getD-drop at xs j 0
 pub part-back : (a e : ℕ) (xs ys : List ℕ) → a ≤ e → length ys ≡ e - a → putMid a (e - a) xs ys ≡ replace a ys xs
 part-back a e xs ys h l =
     ap (λ (t : List ℕ). take a xs ++ (ys ++ t)) (drop-drop (e - a) a xs ∙ ap (λ (n : ℕ). drop (a + n) xs) (sym l))
+
+-- a lent part that comes back with one value everywhere
+pub filled-part : (a e n v : ℕ) (xs ys : List ℕ) → a + n ≡ e → e ≤ length xs → ys ≡ replicate (length (midOf a (e - a) xs)) v
+    → putMid a (e - a) xs ys ≡ replace a (replicate n v) xs
+filled-part a e n v xs ys h f q =
+    let r : ys ≡ replicate n v = q ∙ ap (λ (k : ℕ). replicate k v) (mid-len a e xs f ∙ count) in
+    part-back a e xs ys (omega arith) (ap length r ∙ length-replicate n v ∙ sym count) ∙ ap (λ (t : List ℕ). replace a t xs) r
+  where
+    count : e - a ≡ n
+    count = omega arith
 
 module _ (at : ℕ) (ys xs : List ℕ) (fits : at + length ys ≤ length xs) where
   head-length : length (take at xs) ≡ at

@@ -1,28 +1,23 @@
 -- What the lent parts leave when they come back, as the contracts say it.
-use mathlib.Core.Path.{_≡_, refl, sym, ap, _∙_}
+use mathlib.Core.Path.{_≡_, refl, ap, _∙_}
 use mathlib.Core.Bool.{true, false}
 use mathlib.Core.List.{List}
 use Prim.Native.Nat.{ℕ, _+_, _-_, _*_, _≤_, _<_}
 use native.Mathlib.Omega.{arith}
-use lib.ListN.{length, replicate, length-replicate}
+use lib.ListN.{length, replicate}
 use borrow.Rule.Slice.PartMut.{putMid, midOf, mid-len}
 use borrow.Author.Tests.{le-leb, lt-leb, lt-ltb, le-ltb}
 use Rattle.buffers.specs.Ranges.{range, replace, andEach}
 use lib.Bits.{bitAnd}
 use Rattle.buffers.proofs.Each.{each-length}
-use Rattle.buffers.proofs.Replace.{part-back}
+use Rattle.buffers.proofs.Replace.{part-back, filled-part}
 use Rattle.units.specs.Units.{toBytes}
 use Rattle.chip.specs.Actions.{hasBlock, erased, eraseBlock, hasPage, programmed, programPage}
 
 pub erased-part : (a e n : ℕ) (xs ys : List ℕ) → a + n ≡ e → e ≤ length xs → ys ≡ replicate (length (midOf a (e - a) xs)) 0xff
     → putMid a (e - a) xs ys ≡ erased a n xs
 unfolding erased
-erased-part a e n xs ys h f q =
-    let r : ys ≡ replicate n 0xff = q ∙ ap (λ (k : ℕ). replicate k 0xff) (mid-len a e xs f ∙ count) in
-    part-back a e xs ys (omega arith) (ap length r ∙ length-replicate n 0xff ∙ sym count) ∙ ap (λ (t : List ℕ). replace a t xs) r
-  where
-    count : e - a ≡ n
-    count = omega arith
+erased-part a e n xs ys h f q = filled-part a e n 0xff xs ys h f q
 
 programmed-part : (a e n : ℕ) (xs ws ys : List ℕ) → a + n ≡ e → e ≤ length xs → ys ≡ andEach (midOf a (e - a) xs) (midOf a (e - a) ws)
     → putMid a (e - a) xs ys ≡ programmed a n ws xs

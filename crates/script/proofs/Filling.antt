@@ -1,28 +1,17 @@
 -- What the host's fill leaves, as the contract says it.
-use mathlib.Core.Path.{_≡_, refl, sym, ap, _∙_}
+use mathlib.Core.Path.{_≡_, refl}
 use mathlib.Core.Bool.{true, false}
 use mathlib.Core.List.{List}
 use Prim.Native.Nat.{ℕ, _+_, _-_, _≤_, _<_, min}
 use native.Mathlib.Omega.{arith}
-use lib.ListN.{length, replicate, length-replicate}
-use borrow.Rule.Slice.PartMut.{putMid, midOf, mid-len}
+use lib.ListN.{length, replicate}
+use borrow.Rule.Slice.PartMut.{putMid, midOf}
 use borrow.Author.Tests.{le-leb, lt-leb}
 use Rattle.units.specs.Units.{toBytes}
-use Rattle.buffers.specs.Ranges.{replace}
-use Rattle.buffers.proofs.Replace.{part-back}
+use Rattle.buffers.proofs.Replace.{filled-part}
 use Rattle.session.specs.declared.Session.{Session}
 use Rattle.refusals.specs.Refusals.{isWrite}
 use Rattle.script.specs.Effects.{fillAllowed, filled}
-
--- a lent part that comes back with one value everywhere
-filled-part : (a e n v : ℕ) (xs ys : List ℕ) → a + n ≡ e → e ≤ length xs → ys ≡ replicate (length (midOf a (e - a) xs)) v
-    → putMid a (e - a) xs ys ≡ replace a (replicate n v) xs
-filled-part a e n v xs ys h f q =
-    let r : ys ≡ replicate n v = q ∙ ap (λ (k : ℕ). replicate k v) (mid-len a e xs f ∙ count) in
-    part-back a e xs ys (omega arith) (ap length r ∙ length-replicate n v ∙ sym count) ∙ ap (λ (t : List ℕ). replace a t xs) r
-  where
-    count : e - a ≡ n
-    count = omega arith
 
 module _ (s : Session) (offset count value : ℕ) (memory : List ℕ) where
   pub fill-windowless : isWrite (s .window) ≡ false

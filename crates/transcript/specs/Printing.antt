@@ -20,7 +20,7 @@ abbrev pub decimalIn : ℕ → ℕ → List ℕ
 decimalIn zero n = []
 decimalIn (suc places) n = cond (ltb n 10) ((48 + n) ∷ []) (decimalIn places (n / 10) ++ ((48 + n % 10) ∷ []))
 
--- a number has fewer digits than its successor counts
+-- a number has no more digits than its successor counts
 unfoldable pub decimal : ℕ → List ℕ
 decimal n = decimalIn (suc n) n
 
@@ -47,10 +47,11 @@ isCommand Malformed = false
 abbrev pub answerText : Kind → List ℕ → List ℕ
 answerText kind registers = cond (isCommand kind) (registerLine registers) []
 
--- "for each block in order, the decimal count of bytes other than FF, each after one space": so many blocks from block i on
+-- "the decimal count of bytes other than FF, each after one space"
 abbrev pub countText : ℕ → List ℕ → List ℕ
 countText i flash = 32 ∷ decimal (otherThanFF (range (toBytes i) blockBytes flash))
 
+-- "for each block in order": so many blocks from block i on
 unfoldable pub countsFrom : ℕ → ℕ → List ℕ → List ℕ
 countsFrom zero i flash = []
 countsFrom (suc blocks) i flash = countText i flash ++ countsFrom blocks (suc i) flash
