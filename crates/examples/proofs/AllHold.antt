@@ -1,14 +1,13 @@
 -- The twelve examples of document 01 hold, by computation from the definitions.
-use mathlib.Core.Path.{_≡_, refl}
-use mathlib.Core.Bool.{true}
+use mathlib.Core.Path.{refl}
 use Rattle.chip.specs.Actions.{erased, programmed}
 use Rattle.session.specs.Soundness.{sizeSound, sizesSound, sessionSound, sound, soundAt}
 use Rattle.flush.specs.Actions.{blockActions, actionsFrom, flushActions, perform, performAll}
 use Rattle.flush.specs.Window.{performIn, advanced, flushWhole}
 use Rattle.refusals.specs.Refusals.{reasonFor}
 use Rattle.mailbox.specs.Mediator.{served, answerTo, mediate}
-use Rattle.examples.specs.Examples.{every, holds, examples}
+use Rattle.examples.specs.Examples.{examples, AllHold}
 
-pub all-hold : every holds examples ≡ true
+pub all-hold : AllHold
 unfolding examples mediate answerTo served reasonFor soundAt sound sizesSound sizeSound sessionSound flushWhole advanced performIn performAll perform flushActions actionsFrom blockActions erased programmed
 all-hold = refl

@@ -1,6 +1,7 @@
 -- The twelve examples of document 01 as data, and what it is for one to hold: its calls are made on the definitions, each on what the one
 -- before left, and what each leaves passes the checks that 01's words ask for.
 use Prim.Native.Nat.{ℕ, zero, suc, _-_}
+use mathlib.Core.Path.{_≡_}
 use mathlib.Core.Bool.{Bool, true, false, cond, _&&_}
 use mathlib.Core.List.{List, [], _∷_, _++_}
 use lib.Dec.{eqb}
@@ -409,3 +410,7 @@ unfoldable pub examples : List Example
 examples =
     example1 ∷ example2 ∷ example3 ∷ example4 ∷ example5 ∷ example6 ∷ example7 ∷ example8 ∷ example9 ∷ example10 ∷ example11 ∷ example12
     ∷ []
+
+-- "The twelve examples are proved from the definitions by a single statement over a single list": its proof is `all-hold`, in proofs/AllHold.antt
+abbrev pub AllHold : Type 0
+AllHold = every holds examples ≡ true

@@ -22,6 +22,7 @@ use Rattle.mailbox.specs.Commands.{withVersion}
 use Rattle.mailbox.specs.Mediator.{numbered}
 use Rattle.refusals.proofs.Accepting.{measured}
 use Rattle.recovery.specs.Cut.{Event, cut, start, Kept, AtCut}
+use Rattle.recovery.specs.Demand.{Demand3}
 use Rattle.recovery.specs.Second.{Machine, Way, bySteps, byFlush, Succeeds, flashAfter, agreeing, opening, SecondRun, StepsSucceed, secondEnd, secondFlash, unstopped, AddsNone, unstoppedFlash}
 use Rattle.recovery.proofs.FirstList.{sound-as, marks-sound, Running, begins, runs, says, session-after, block-at, finished-at, old-at, other-at, length-at, resumed-kept, resume-said, steps-flash, steps-said}
 use Rattle.recovery.proofs.SecondList.{info-leaves, create-opens, Open, calls-open, flush-leaves}
@@ -155,16 +156,8 @@ module _ (board : Board) (s : Session) (flash memory : List ℕ) (sounds : sound
         ∙ after-cut s flash (part-within (length flash) (length memory) s e .0) memory room (marks-sound s flash memory e w) (end q .memory)
         (subst (λ (n : ℕ). toBytes (s .size) ≤ n) (sym (o .memory-long)) room) (q .same-bytes) (cut s flash memory events .count)
 
--- Demand 3: "for every two such lists, the chip equals that of the flush never stopped"; where a run flushes by steps, each of them succeeds
-pub demand-3 : (board : Board) (s : Session) (flash memory : List ℕ)
-    → soundAt (board .lpc) (length flash) (length memory) s ≡ true → s .window ≡ Write
-    → (events : List Event)
-    → AtCut s flash memory events
-    × ((second : SecondRun board s (cut s flash memory events .flash) memory) (way : Way)
-    → Succeeds board way (unstopped s flash memory) → AddsNone way s
-    → (secondFlash board s (cut s flash memory events .flash) memory second ≡ unstoppedFlash board way s flash memory)
-    × StepsSucceed (secondEnd board s (cut s flash memory events .flash) memory second)
-    × StepsSucceed (unstopped s flash memory))
+-- the statement stands in specs/Demand.antt
+pub demand-3 : Demand3
 demand-3 board s flash memory sounds w events = (
   at-cut board s flash memory sounds w events,
   λ second way ok none. (
