@@ -6,4 +6,4 @@ cd "$(dirname "$0")/.."
 bash tests/staticlib.sh
 bash tools/bench.sh --build
 cargo build --release --offline --quiet --manifest-path tests/compare/Cargo.toml --target-dir target/cargo
-BENCH=target/bin/bench target/cargo/release/compare "${1:-1}" "${2:-12000}"
+BENCH=target/bin/bench target/cargo/release/compare "${1:-1}" "${2:-60000}"
