@@ -15,7 +15,8 @@
  *     memory is written by the host between the calls, and not during one;
  *   - each bool byte is 0 or 1.
  * Every other value is taken: any version, event byte, marks, window number and buffer length gets the
- * answer that the rules give it, SYSTEM_ERROR (4) where the record, the sizes or lpc are not sound.
+ * answer that the rules give it, SYSTEM_ERROR (4) where the record or the sizes are not sound, or where lpc
+ * and the blocks of the window memory together are above 65,536.
  */
 #ifndef HIOMAP_H
 #define HIOMAP_H
@@ -24,8 +25,50 @@
 #include <stddef.h>
 #include <stdint.h>
 
-#define HIOMAP_REGISTERS 16
+#ifdef __cplusplus
+#define HIOMAP_ASSERT(claim, name) static_assert(claim, name)
+extern "C" {
+#else
+#define HIOMAP_ASSERT(claim, name) _Static_assert(claim, name)
+#endif
+
 #define HIOMAP_BLOCK_BYTES 4096
+
+/* The registers. Arguments are little-endian from register 2 on: docs/PROTOCOL.md has each command's. */
+#define HIOMAP_REGISTERS 16
+#define HIOMAP_COMMAND 0
+#define HIOMAP_SEQUENCE 1
+#define HIOMAP_ARGUMENTS 2
+#define HIOMAP_RESPONSE 13
+#define HIOMAP_HOST_STATUS 14
+#define HIOMAP_EVENTS 15
+
+/* The commands. */
+#define HIOMAP_RESET 1
+#define HIOMAP_GET_INFO 2
+#define HIOMAP_GET_FLASH_INFO 3
+#define HIOMAP_CREATE_READ_WINDOW 4
+#define HIOMAP_CLOSE_WINDOW 5
+#define HIOMAP_CREATE_WRITE_WINDOW 6
+#define HIOMAP_MARK_DIRTY 7
+#define HIOMAP_FLUSH 8
+#define HIOMAP_ACK 9
+#define HIOMAP_ERASE 10
+
+/* The responses. */
+#define HIOMAP_SUCCESS 1
+#define HIOMAP_PARAM_ERROR 2
+#define HIOMAP_SYSTEM_ERROR 4
+#define HIOMAP_TIMEOUT 5
+#define HIOMAP_BUSY 6
+#define HIOMAP_WINDOW_ERROR 7
+#define HIOMAP_SEQ_ERROR 8
+
+/* The bits of the event byte. */
+#define HIOMAP_EVENT_PROTOCOL_RESET 0x01
+#define HIOMAP_EVENT_WINDOW_RESET 0x02
+#define HIOMAP_EVENT_FLASH_CONTROL_LOST 0x40
+#define HIOMAP_EVENT_DAEMON_READY 0x80
 
 /* The kinds of window. A record with a larger number is not sound. */
 #define HIOMAP_WINDOW_NONE 0
@@ -62,22 +105,25 @@ typedef struct hiomap_suspended {
     hiomap_record record;
 } hiomap_suspended;
 
-/* What a step answers: 4 SYSTEM_ERROR, 6 BUSY or 1, and whether it did an action. */
+/*
+ * What a step answers: 4 SYSTEM_ERROR, 6 BUSY or 1, and whether it did an action. 1 without an action means
+ * that no action is left: all were done, nothing is marked, or there is no window.
+ */
 typedef struct hiomap_stepped {
     uint8_t code;
     bool acted;
 } hiomap_stepped;
 
 /* Each field stands where the library has it. */
-_Static_assert(offsetof(hiomap_record, version) == 0 && offsetof(hiomap_record, numbered) == 1, "hiomap_record");
-_Static_assert(offsetof(hiomap_record, previous) == 2 && offsetof(hiomap_record, events) == 3, "hiomap_record");
-_Static_assert(offsetof(hiomap_record, suspended) == 4 && offsetof(hiomap_record, window) == 5, "hiomap_record");
-_Static_assert(offsetof(hiomap_record, first) == 6 && offsetof(hiomap_record, size) == 8, "hiomap_record");
-_Static_assert(offsetof(hiomap_record, marks) == 10 && sizeof(hiomap_record) == 74, "hiomap_record");
-_Static_assert(offsetof(hiomap_suspended, record) == 2 && sizeof(hiomap_suspended) == 76, "hiomap_suspended");
-_Static_assert(offsetof(hiomap_stepped, acted) == 1 && sizeof(hiomap_stepped) == 2, "hiomap_stepped");
-_Static_assert(offsetof(hiomap_bytes, length) == sizeof(uint8_t *), "hiomap_bytes");
-_Static_assert(offsetof(hiomap_const_bytes, length) == sizeof(uint8_t *), "hiomap_const_bytes");
+HIOMAP_ASSERT(offsetof(hiomap_record, version) == 0 && offsetof(hiomap_record, numbered) == 1, "hiomap_record");
+HIOMAP_ASSERT(offsetof(hiomap_record, previous) == 2 && offsetof(hiomap_record, events) == 3, "hiomap_record");
+HIOMAP_ASSERT(offsetof(hiomap_record, suspended) == 4 && offsetof(hiomap_record, window) == 5, "hiomap_record");
+HIOMAP_ASSERT(offsetof(hiomap_record, first) == 6 && offsetof(hiomap_record, size) == 8, "hiomap_record");
+HIOMAP_ASSERT(offsetof(hiomap_record, marks) == 10 && sizeof(hiomap_record) == 74, "hiomap_record");
+HIOMAP_ASSERT(offsetof(hiomap_suspended, record) == 2 && sizeof(hiomap_suspended) == 76, "hiomap_suspended");
+HIOMAP_ASSERT(offsetof(hiomap_stepped, acted) == 1 && sizeof(hiomap_stepped) == 2, "hiomap_stepped");
+HIOMAP_ASSERT(offsetof(hiomap_bytes, length) == sizeof(uint8_t *), "hiomap_bytes");
+HIOMAP_ASSERT(offsetof(hiomap_const_bytes, length) == sizeof(uint8_t *), "hiomap_const_bytes");
 
 /* A fresh session: version 0, event byte 0x81, no window. */
 hiomap_record hiomap_fresh(void);
@@ -112,5 +158,9 @@ hiomap_suspended hiomap_resume_changed(hiomap_record record);
  * The record has no change, and the marks stay: a FLUSH after the steps does all actions again.
  */
 hiomap_stepped hiomap_step(hiomap_record record, hiomap_bytes flash, hiomap_const_bytes memory, uint64_t done);
+
+#ifdef __cplusplus
+}
+#endif
 
 #endif
