@@ -2,18 +2,13 @@
 -- the closing of a window by a create or a close.
 use mathlib.Core.Path.{_≡_, refl, sym, ap, _∙_}
 use mathlib.Core.Bool.{Bool, true, false, cond, false≢true}
-use mathlib.Core.List.{List, [], _∷_, _++_}
+use mathlib.Core.List.{List}
 use mathlib.Core.Logic.{⊎-elim}
-use Prim.Native.Nat.{ℕ, zero, suc, _+_, _≤_}
-use native.Mathlib.Omega.{arith}
-use native.Mathlib.Nat.{not-suc-le-zero, le-of-suc-le-suc}
+use Prim.Native.Nat.{ℕ, _+_, _≤_}
 use lib.Dec.{leb}
-use lib.ListN.{take, drop, replicate, length-replicate}
-use lib.Seq.{drop-drop}
 use borrow.Author.Tests.{not-false}
 use Rattle.units.proofs.Cases.{decided, both}
 use Rattle.units.specs.Units.{roundUp}
-use Rattle.buffers.specs.Ranges.{replace}
 use Rattle.session.specs.declared.Session.{Session}
 use Rattle.session.specs.declared.Window.{Window}
 use Rattle.session.specs.declared.Window.the-variants.{Closed, Read, Write}
@@ -25,55 +20,29 @@ use Rattle.refusals.specs.Registers.{commandOf}
 use Rattle.refusals.specs.Refusals.{blocksNamed, flushMarks, isWrite, reasonFor}
 use Rattle.mailbox.specs.Commands.{marked}
 use Rattle.mailbox.specs.Mediator.{numbered}
+use Rattle.mailbox.proofs.MarksKept.{marked-sound}
 use Rattle.refusals.proofs.Accepting.{passed, measured, named-within, flush-argument}
-
--- ---- marks stay sound where some blocks of the window are marked dirty
-ones : (n count : ℕ) → count ≤ n → marksSound n (replicate count 1 ++ []) ≡ true
-ones n zero h = refl
-ones zero (suc count) h = absurd (not-suc-le-zero h)
-ones (suc n) (suc count) h = ones n count (le-of-suc-le-suc h)
-
-front : (n count : ℕ) (ms : List ℕ) → count ≤ n → marksSound n ms ≡ true → marksSound n (replicate count 1 ++ drop count ms) ≡ true
-front n zero ms h e = e
-front n (suc count) [] h e = ones n (suc count) h
-front zero (suc count) (m ∷ ms) h e = absurd (not-suc-le-zero h)
-front (suc n) (suc count) (m ∷ ms) h e = front n count ms (le-of-suc-le-suc h) (both (leb m 2) (marksSound n ms) e .1)
-
-spliced : (n start count : ℕ) (ms : List ℕ) → start + count ≤ n → marksSound n ms ≡ true
-    → marksSound n (take start ms ++ (replicate count 1 ++ drop count (drop start ms))) ≡ true
-spliced n zero count ms h e = front n count ms (omega arith) e
-spliced n (suc start) count [] h e = front n count [] (omega arith) e
-spliced zero (suc start) count (m ∷ ms) h e = absurd (omega arith)
-spliced (suc n) (suc start) count (m ∷ ms) h e =
-    let p = both (leb m 2) (marksSound n ms) e in
-    rw (p .0) (spliced n start count ms (omega arith) (p .1))
-
-dirtied : (n start count : ℕ) (ms : List ℕ) → start + count ≤ n → marksSound n ms ≡ true → marksSound n (replace start (replicate count 1) ms) ≡ true
-dirtied n start count ms h e =
-    ap (λ (t : List ℕ). marksSound n (take start ms ++ (replicate count 1 ++ t)))
-    (ap (λ (k : ℕ). drop (start + k) ms) (length-replicate count 1) ∙ sym (drop-drop count start ms))
-    ∙ spliced n start count ms h e
 
 -- ---- the session of a flush
 closing-sound : (flash memory : ℕ) (s : Session) (registers : List ℕ) → sound flash memory s ≡ true → sound flash memory (numbered s registers) ≡ true
 unfolding sound sessionSound
 closing-sound flash memory s registers e = e
 
-write-is : (w : Window) → isWrite w ≡ true → w ≡ Write
+pub write-is : (w : Window) → isWrite w ≡ true → w ≡ Write
 write-is Closed e = absurd (false≢true e)
 write-is Read e = absurd (false≢true e)
 write-is Write e = refl
 
-marked-sound : (flash memory : ℕ) (s : Session) (registers : List ℕ) → sound flash memory s ≡ true → s .window ≡ Write
+dirtied-sound : (flash memory : ℕ) (s : Session) (registers : List ℕ) → sound flash memory s ≡ true → s .window ≡ Write
     → blocksNamed s registers .start + blocksNamed s registers .count ≤ s .size → sound flash memory (marked dirty (numbered s registers) registers) ≡ true
 unfolding sound sessionSound
-marked-sound flash memory s registers e w h =
+dirtied-sound flash memory s registers e w h =
     let p = both (sizesSound flash memory) _ e in
     let q = both (leb (s .version) 2) _ (p .1) in
     let t = both (windowSound (s .window) (s .first) (s .size) (roundUp flash) (roundUp memory)) _ (q .1) in
     let limit : markable (s .window) (s .size) ≡ s .size = ap (λ (k : Window). markable k (s .size)) w in
     let marks : marksSound (s .size) (s .marks) ≡ true = ap (λ (n : ℕ). marksSound n (s .marks)) (sym limit) ∙ t .1 in
-    rw (p .0, q .0, t .0, limit) (dirtied (s .size) (blocksNamed s registers .start) (blocksNamed s registers .count) (s .marks) h marks)
+    rw (p .0, q .0, t .0, limit) (marked-sound dirty refl (s .size) (blocksNamed s registers .start) (blocksNamed s registers .count) (s .marks) h marks)
 
 pub guarded : (board : Board) (s : Session) (registers : List ℕ) (flash memory : ℕ) → reasonFor board s registers flash memory ≡ Accepted
     → (sound flash memory (numbered s registers) ≡ true)
@@ -86,7 +55,7 @@ guarded board s registers flash memory a =
           ⊎-elim
           (λ (t : flushMarks s registers ≡ true).
           ap (λ (b : Bool). sound flash memory (cond b (marked dirty (numbered s registers) registers) (numbered s registers))) t
-          ∙ marked-sound flash memory s registers (m .sound) (write-is (s .window) (not-false (isWrite (s .window)) (rw c at (p .windowed))))
+          ∙ dirtied-sound flash memory s registers (m .sound) (write-is (s .window) (not-false (isWrite (s .window)) (rw c at (p .windowed))))
           (named-within s registers (flush-argument s registers (roundUp flash) (p .argued) c t)))
           (λ (t : flushMarks s registers ≡ false).
           ap (λ (b : Bool). sound flash memory (cond b (marked dirty (numbered s registers) registers) (numbered s registers))) t

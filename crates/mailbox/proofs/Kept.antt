@@ -1,0 +1,177 @@
+-- A sound session stays sound: every command, suspend and resume leave one, so SYSTEM_ERROR never comes from what the calls themselves leave.
+use mathlib.Core.Path.{_≡_, refl, sym, ap, _∙_}
+use mathlib.Core.Bool.{Bool, true, false, cond, not, _&&_}
+use mathlib.Core.List.{List}
+use mathlib.Core.Logic.{_⊎_, inl, inr, ⊎-elim}
+use Prim.Native.Nat.{ℕ, _+_, _-_, _≤_, _<_, min}
+use native.Mathlib.Omega.{arith}
+use lib.Dec.{leb, eqb}
+use lib.ListN.{length}
+use borrow.Author.Tests.{le-leb, eqb-true, eqb-false, not-false}
+use Rattle.units.proofs.Cases.{decided, both}
+use Rattle.units.specs.Units.{roundUp}
+use Rattle.session.specs.declared.Session.{Session}
+use Rattle.session.specs.declared.Window.{Window}
+use Rattle.session.specs.declared.Window.the-variants.{Read, Write}
+use Rattle.session.specs.Record.{clean, setBits, clearBits, dropWindow, fresh}
+use Rattle.session.specs.Soundness.{activeSound, windowSound, markable, marksSound, sessionSound, sizesSound, sound, soundAt}
+use Rattle.session.specs.Suspension.{controlLost, windowReset, withAccess, answer, suspended, resumed, resumedChanged}
+use Rattle.flush.specs.Actions.{dirty, erasedMark}
+use Rattle.refusals.specs.declared.Board.{Board}
+use Rattle.refusals.specs.declared.Reason.{Reason}
+use Rattle.refusals.specs.declared.Reason.the-variants.{Accepted, System, Repeated, Unknown, Suspended, Windowless, Argument}
+use Rattle.refusals.specs.Registers.{commandOf, argument, number}
+use Rattle.refusals.specs.Refusals.{blocksNamed, flushMarks, argumentBroken, isWrite, windowless, reasonFor}
+use Rattle.refusals.proofs.Accepting.{passed, measured, named-within, create-argument, mark-argument, last-known}
+use Rattle.mailbox.specs.Commands.{Outcome, withVersion, withMarks, sizeFor, hint, marked, created, ackAnswer}
+use Rattle.mailbox.specs.Mediator.{numbered, isCreate, served, answerTo, mediate}
+use Rattle.mailbox.proofs.Front.{size-fits}
+use Rattle.mailbox.proofs.Guarded.{write-is}
+use Rattle.mailbox.proofs.MarksKept.{clean-sound, marked-sound}
+
+-- the same sizes, and a session that fits them
+refitted : (lpc flash memory : ℕ) (s t : Session) → soundAt lpc flash memory s ≡ true → t .version ≤ 2
+    → windowSound (t .window) (t .first) (t .size) (roundUp flash) (roundUp memory) ≡ true → marksSound (markable (t .window) (t .size)) (t .marks) ≡ true
+    → soundAt lpc flash memory t ≡ true
+unfolding soundAt sound sessionSound
+refitted lpc flash memory s t e v w m =
+    let p = both (sound flash memory s) (leb (lpc + roundUp memory) 65536) e in
+    let q = both (sizesSound flash memory) _ (p .0) in
+    rw (p .1, q .0, le-leb (t .version) 2 v, w, m)
+
+-- a choice of two
+chosen : (P : Outcome → Type 0) (b : Bool) (x y : Outcome) → (b ≡ true → P x) → (b ≡ false → P y) → P (cond b x y)
+chosen P true x y f g = f refl
+chosen P false x y f g = g refl
+
+positive : (n : ℕ) → (n ≡ 0 → ⊥) → 1 ≤ n
+positive n h = omega arith
+
+size-some : (S C o n : ℕ) → o < S → 1 ≤ C → 1 ≤ sizeFor S C o n
+size-some S C o n h k =
+    ⊎-elim
+    (λ (t : eqb n 0 ≡ true). rw t (omega arith))
+    (λ (t : eqb n 0 ≡ false). let p = positive n (eqb-false n 0 t) in rw t (omega (arith, p)))
+    (decided (eqb n 0))
+
+module _ (board : Board) (s : Session) (registers flash memory : List ℕ) (e : soundAt (board .lpc) (length flash) (length memory) s ≡ true) where
+  -- what is to be shown of an outcome
+  abbrev Keeps : Outcome → Type 0
+  Keeps o = soundAt (board .lpc) (length flash) (length memory) (o .answer .session) ≡ true
+
+  fits : (t : Session) → t .version ≤ 2 → windowSound (t .window) (t .first) (t .size) (roundUp (length flash)) (roundUp (length memory)) ≡ true
+      → marksSound (markable (t .window) (t .size)) (t .marks) ≡ true → soundAt (board .lpc) (length flash) (length memory) t ≡ true
+  fits t v w m = refitted (board .lpc) (length flash) (length memory) s t e v w m
+
+  known : s .version ≤ 2
+  known = measured (board .lpc) (length flash) (length memory) s e .fits .known
+
+  window : windowSound (s .window) (s .first) (s .size) (roundUp (length flash)) (roundUp (length memory)) ≡ true
+  window = measured (board .lpc) (length flash) (length memory) s e .fits .window
+
+  marks : marksSound (markable (s .window) (s .size)) (s .marks) ≡ true
+  marks = measured (board .lpc) (length flash) (length memory) s e .fits .marks
+
+  some : 1 ≤ roundUp (length memory)
+  some = measured (board .lpc) (length flash) (length memory) s e .memory-sized .some
+
+  -- a new window
+  create-keeps : (w : Window) → ((o z : ℕ) → windowSound w o z (roundUp (length flash)) (roundUp (length memory)) ≡ activeSound o z (roundUp (length flash)) (roundUp (length memory)))
+      → number 2 0 registers < roundUp (length flash) → Keeps (created w board (numbered s registers) registers flash memory)
+  create-keeps w active h =
+      let o = number 2 0 registers in
+      let n = hint (numbered s registers) registers in
+      let z = sizeFor (roundUp (length flash)) (roundUp (length memory)) o n in
+      let f = size-fits (roundUp (length flash)) (roundUp (length memory)) o n h in
+      fits (created w board (numbered s registers) registers flash memory .answer .session) known
+      (active o z ∙ rw (le-leb 1 z (size-some (roundUp (length flash)) (roundUp (length memory)) o n h some), le-leb z (roundUp (length memory)) (f .1), le-leb (o + z) (roundUp (length flash)) (f .0)))
+      (clean-sound (markable w z) 64)
+
+  -- new marks in a write window
+  marked-keeps : (mark : ℕ) → leb mark 2 ≡ true → s .window ≡ Write → blocksNamed s registers .inside ≡ true
+      → soundAt (board .lpc) (length flash) (length memory) (marked mark (numbered s registers) registers) ≡ true
+  marked-keeps mark fine w inside =
+      let limit : markable (s .window) (s .size) ≡ s .size = ap (λ (k : Window). markable k (s .size)) w in
+      fits (marked mark (numbered s registers) registers) known window
+      (ap (λ (n : ℕ). marksSound n (marked mark (numbered s registers) registers .marks)) limit
+      ∙ marked-sound mark fine (s .size) (blocksNamed s registers .start) (blocksNamed s registers .count) (s .marks) (named-within s registers inside) (ap (λ (n : ℕ). marksSound n (s .marks)) (sym limit) ∙ marks))
+
+  -- a FLUSH, with or without marks of its own
+  flush-keeps : (adds : Bool)
+      → soundAt (board .lpc) (length flash) (length memory) (withMarks clean (cond adds (marked dirty (numbered s registers) registers) (numbered s registers))) ≡ true
+  flush-keeps true = fits (withMarks clean (numbered s registers)) known window (clean-sound (markable (s .window) (s .size)) 64)
+  flush-keeps false = fits (withMarks clean (numbered s registers)) known window (clean-sound (markable (s .window) (s .size)) 64)
+
+  numbered-keeps : soundAt (board .lpc) (length flash) (length memory) (numbered s registers) ≡ true
+  numbered-keeps = fits (numbered s registers) known window marks
+
+  drop-keeps : soundAt (board .lpc) (length flash) (length memory) (dropWindow (numbered s registers)) ≡ true
+  drop-keeps = fits (dropWindow (numbered s registers)) known refl (clean-sound 0 64)
+
+  version-keeps : soundAt (board .lpc) (length flash) (length memory) (withVersion (min (argument 0 registers) 2) (numbered s registers)) ≡ true
+  version-keeps = fits (withVersion (min (argument 0 registers) 2) (numbered s registers)) (omega arith) window marks
+
+  -- a command that no check refused
+  module _ (a : reasonFor board s registers (length flash) (length memory) ≡ Accepted) where
+    writes : windowless s registers ≡ (true && not (isWrite (s .window))) → s .window ≡ Write
+    writes h = write-is (s .window) (not-false (isWrite (s .window)) (sym h ∙ passed board s registers (length flash) (length memory) a .windowed))
+
+    argued : argumentBroken s registers (roundUp (length flash)) ≡ false
+    argued = passed board s registers (length flash) (length memory) a .argued
+
+    served-keeps : Keeps (served (commandOf registers) board (numbered s registers) registers flash memory)
+    unfolding served
+    served-keeps =
+        let c = commandOf registers in
+        chosen Keeps (eqb c 1) _ _ (λ _. drop-keeps) (λ n1.
+        chosen Keeps (eqb c 2) _ _ (λ _. version-keeps) (λ n2.
+        chosen Keeps (eqb c 3) _ _ (λ _. numbered-keeps) (λ n3.
+        chosen Keeps (eqb c 4) _ _ (λ t. create-keeps Read (λ o z. refl) (create-argument s registers (roundUp (length flash)) argued 4 (inl refl) (eqb-true c 4 t))) (λ n4.
+        chosen Keeps (eqb c 5) _ _ (λ _. drop-keeps) (λ n5.
+        chosen Keeps (eqb c 6) _ _ (λ t. create-keeps Write (λ o z. refl) (create-argument s registers (roundUp (length flash)) argued 6 (inr refl) (eqb-true c 6 t))) (λ n6.
+        chosen Keeps (eqb c 7) _ _ (λ t. marked-keeps dirty refl (writes (rw (eqb-true c 7 t))) (mark-argument s registers (roundUp (length flash)) argued 7 (inl refl) (eqb-true c 7 t))) (λ n7.
+        chosen Keeps (eqb c 8) _ _ (λ _. flush-keeps (flushMarks (numbered s registers) registers)) (λ n8.
+        chosen Keeps (eqb c 9) _ _ (λ _. fits (ackAnswer (numbered s registers) registers .session) known window marks) (λ n9.
+        let ten = last-known (s .version) c (passed board s registers (length flash) (length memory) a .knows) (eqb-false c 1 n1) (eqb-false c 2 n2) (eqb-false c 3 n3) (eqb-false c 4 n4) (eqb-false c 5 n5) (eqb-false c 6 n6) (eqb-false c 7 n7) (eqb-false c 8 n8) (eqb-false c 9 n9) in
+        marked-keeps erasedMark refl (writes (rw ten)) (mark-argument s registers (roundUp (length flash)) argued 10 (inr refl) ten))))))))))
+
+  -- whatever the first check that refuses
+  answer-keeps : (r : Reason) → reasonFor board s registers (length flash) (length memory) ≡ r → Keeps (answerTo r board s registers flash memory)
+  unfolding answerTo
+  answer-keeps Accepted a = served-keeps a
+  answer-keeps System a = e
+  answer-keeps Repeated a = numbered-keeps
+  answer-keeps Unknown a = numbered-keeps
+  answer-keeps Suspended a = numbered-keeps
+  answer-keeps Windowless a = numbered-keeps
+  answer-keeps Argument a = chosen Keeps (isCreate registers) _ _ (λ _. drop-keeps) (λ _. numbered-keeps)
+
+-- a command
+pub command-keeps : (board : Board) (s : Session) (registers flash memory : List ℕ) → soundAt (board .lpc) (length flash) (length memory) s ≡ true
+    → soundAt (board .lpc) (length flash) (length memory) (mediate board s registers flash memory .answer .session) ≡ true
+unfolding mediate
+command-keeps board s registers flash memory e =
+    answer-keeps board s registers flash memory e (reasonFor board s registers (length flash) (length memory)) refl
+
+-- suspend, resume and resume with changed flash
+module _ (lpc flash memory : ℕ) (s : Session) (e : soundAt lpc flash memory s ≡ true) where
+  either : (b : Bool) (t : Session) → soundAt lpc flash memory t ≡ true → soundAt lpc flash memory (answer b s t .session) ≡ true
+  either true t h = h
+  either false t h = e
+
+  pub suspend-keeps : soundAt lpc flash memory (suspended s .session) ≡ true
+  unfolding soundAt sound sessionSound
+  suspend-keeps = either (not (s .suspended)) (withAccess true (setBits controlLost (s .events)) s) e
+
+  pub resume-keeps : soundAt lpc flash memory (resumed s .session) ≡ true
+  unfolding soundAt sound sessionSound
+  resume-keeps = either (s .suspended) (withAccess false (clearBits controlLost (s .events)) s) e
+
+  pub resume-changed-keeps : soundAt lpc flash memory (resumedChanged s .session) ≡ true
+  resume-changed-keeps =
+      either (s .suspended) (dropWindow (withAccess false (setBits windowReset (clearBits controlLost (s .events))) s))
+      (refitted lpc flash memory s _ e (measured lpc flash memory s e .fits .known) refl (clean-sound 0 64))
+
+-- a fresh session is sound wherever any is
+pub fresh-sound : (lpc flash memory : ℕ) (s : Session) → soundAt lpc flash memory s ≡ true → soundAt lpc flash memory fresh ≡ true
+fresh-sound lpc flash memory s e = refitted lpc flash memory s fresh e (omega arith) refl (clean-sound 0 64)

@@ -1,0 +1,47 @@
+-- Marks stay sound where some blocks of the window get one that is sound.
+use mathlib.Core.Path.{_≡_, refl, sym, ap, _∙_}
+use mathlib.Core.Bool.{true}
+use mathlib.Core.List.{List, [], _∷_, _++_}
+use Prim.Native.Nat.{ℕ, zero, suc, _+_, _≤_}
+use native.Mathlib.Omega.{arith}
+use native.Mathlib.Nat.{not-suc-le-zero, le-of-suc-le-suc}
+use lib.Dec.{leb}
+use lib.ListN.{take, drop, replicate, length-replicate}
+use lib.Seq.{drop-drop}
+use Rattle.units.proofs.Cases.{both}
+use Rattle.buffers.specs.Ranges.{replace}
+use Rattle.session.specs.Soundness.{marksSound}
+
+-- no mark at all
+pub clean-sound : (n k : ℕ) → marksSound n (replicate k 0) ≡ true
+clean-sound n zero = refl
+clean-sound zero (suc k) = clean-sound zero k
+clean-sound (suc n) (suc k) = clean-sound n k
+
+module _ (mark : ℕ) (fine : leb mark 2 ≡ true) where
+  alike : (n count : ℕ) → count ≤ n → marksSound n (replicate count mark ++ []) ≡ true
+  alike n zero h = refl
+  alike zero (suc count) h = absurd (not-suc-le-zero h)
+  alike (suc n) (suc count) h = rw fine (alike n count (le-of-suc-le-suc h))
+
+  front : (n count : ℕ) (ms : List ℕ) → count ≤ n → marksSound n ms ≡ true → marksSound n (replicate count mark ++ drop count ms) ≡ true
+  front n zero ms h e = e
+  front n (suc count) [] h e = alike n (suc count) h
+  front zero (suc count) (m ∷ ms) h e = absurd (not-suc-le-zero h)
+  front (suc n) (suc count) (m ∷ ms) h e = rw fine (front n count ms (le-of-suc-le-suc h) (both (leb m 2) (marksSound n ms) e .1))
+
+  spliced : (n start count : ℕ) (ms : List ℕ) → start + count ≤ n → marksSound n ms ≡ true
+      → marksSound n (take start ms ++ (replicate count mark ++ drop count (drop start ms))) ≡ true
+  spliced n zero count ms h e = front n count ms (omega arith) e
+  spliced n (suc start) count [] h e = front n count [] (omega arith) e
+  spliced zero (suc start) count (m ∷ ms) h e = absurd (omega arith)
+  spliced (suc n) (suc start) count (m ∷ ms) h e =
+      let p = both (leb m 2) (marksSound n ms) e in
+      rw (p .0) (spliced n start count ms (omega arith) (p .1))
+
+  pub marked-sound : (n start count : ℕ) (ms : List ℕ) → start + count ≤ n → marksSound n ms ≡ true
+      → marksSound n (replace start (replicate count mark) ms) ≡ true
+  marked-sound n start count ms h e =
+      ap (λ (t : List ℕ). marksSound n (take start ms ++ (replicate count mark ++ t)))
+      (ap (λ (k : ℕ). drop (start + k) ms) (length-replicate count mark) ∙ sym (drop-drop count start ms))
+      ∙ spliced n start count ms h e
