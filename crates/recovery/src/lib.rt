@@ -1,4 +1,4 @@
 // Demand 3: the claim about a flush that is cut and begun again, over lists of calls.
 //
 // There is no code here. specs/ has what the claim speaks of, over the definitions that the
-// contracts of the crates below cite; proofs/Demand.antt has the claim itself, `demand-3`.
+// contracts of the crates below cite, and in Demand.antt the claim itself; proofs/ has its proof, `demand-3`.

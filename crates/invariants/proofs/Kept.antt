@@ -1,4 +1,4 @@
--- A sound session stays sound: every command, suspend and resume leave one, so SYSTEM_ERROR never comes from what the calls themselves leave.
+-- A sound session stays sound: the claims stand in specs/Kept.antt.
 use mathlib.Core.Path.{_≡_, refl, sym, ap, _∙_}
 use mathlib.Core.Bool.{Bool, true, false, cond, not, _&&_}
 use mathlib.Core.List.{List}
@@ -15,7 +15,7 @@ use Rattle.session.specs.declared.Window.{Window}
 use Rattle.session.specs.declared.Window.the-variants.{Read, Write}
 use Rattle.session.specs.Record.{clean, setBits, clearBits, dropWindow, fresh}
 use Rattle.session.specs.Soundness.{activeSound, windowSound, markable, marksSound, sessionSound, sizesSound, sound, soundAt}
-use Rattle.session.specs.Suspension.{controlLost, windowReset, withAccess, answer, suspended, resumed, resumedChanged}
+use Rattle.session.specs.Suspension.{controlLost, windowReset, withAccess, answer, suspended}
 use Rattle.flush.specs.Actions.{dirty, erasedMark}
 use Rattle.refusals.specs.declared.Board.{Board}
 use Rattle.refusals.specs.declared.Reason.{Reason}
@@ -23,11 +23,12 @@ use Rattle.refusals.specs.declared.Reason.the-variants.{Accepted, System, Repea
 use Rattle.refusals.specs.Registers.{commandOf, argument, number}
 use Rattle.refusals.specs.Refusals.{blocksNamed, flushMarks, argumentBroken, isWrite, windowless, reasonFor}
 use Rattle.refusals.proofs.Accepting.{passed, measured, named-within, create-argument, mark-argument, last-known}
 use Rattle.mailbox.specs.Commands.{Outcome, withVersion, withMarks, sizeFor, hint, marked, created, ackAnswer}
 use Rattle.mailbox.specs.Mediator.{numbered, isCreate, served, answerTo, mediate}
+use Rattle.invariants.specs.Kept.{FreshSound, CommandKeeps, AccessKeeps}
 use Rattle.mailbox.proofs.Front.{size-fits}
 use Rattle.mailbox.proofs.Guarded.{write-is}
 use Rattle.mailbox.proofs.MarksKept.{clean-sound, marked-sound}
 
 -- the same sizes, and a session that fits them
 refitted : (lpc flash memory : ℕ) (s t : Session) → soundAt lpc flash memory s ≡ true → t .version ≤ 2
@@ -146,32 +147,25 @@ module _ (board : Board) (s : Session) (registers flash memory : List ℕ) (e : 
   answer-keeps Windowless a = numbered-keeps
   answer-keeps Argument a = chosen Keeps (isCreate registers) _ _ (λ _. drop-keeps) (λ _. numbered-keeps)
 
--- a command
-pub command-keeps : (board : Board) (s : Session) (registers flash memory : List ℕ) → soundAt (board .lpc) (length flash) (length memory) s ≡ true
-    → soundAt (board .lpc) (length flash) (length memory) (mediate board s registers flash memory .answer .session) ≡ true
+pub command-keeps : CommandKeeps
 unfolding mediate
 command-keeps board s registers flash memory e =
     answer-keeps board s registers flash memory e (reasonFor board s registers (length flash) (length memory)) refl
 
--- suspend, resume and resume with changed flash
-module _ (lpc flash memory : ℕ) (s : Session) (e : soundAt lpc flash memory s ≡ true) where
-  either : (b : Bool) (t : Session) → soundAt lpc flash memory t ≡ true → soundAt lpc flash memory (answer b s t .session) ≡ true
-  either true t h = h
-  either false t h = e
+-- yes, or no and the session as it was
+either : (lpc flash memory : ℕ) (s : Session) → soundAt lpc flash memory s ≡ true → (b : Bool) (t : Session) → soundAt lpc flash memory t ≡ true
+    → soundAt lpc flash memory (answer b s t .session) ≡ true
+either lpc flash memory s e true t h = h
+either lpc flash memory s e false t h = e
 
-  pub suspend-keeps : soundAt lpc flash memory (suspended s .session) ≡ true
-  unfolding soundAt sound sessionSound
-  suspend-keeps = either (not (s .suspended)) (withAccess true (setBits controlLost (s .events)) s) e
+pub access-keeps : AccessKeeps
+unfolding soundAt sound sessionSound
+access-keeps lpc flash memory s e = (
+  either lpc flash memory s e (not (s .suspended)) (withAccess true (setBits controlLost (s .events)) s) e,
+  either lpc flash memory s e (s .suspended) (withAccess false (clearBits controlLost (s .events)) s) e,
+  either lpc flash memory s e (s .suspended) (dropWindow (withAccess false (setBits windowReset (clearBits controlLost (s .events))) s))
+      (refitted lpc flash memory s _ e (measured lpc flash memory s e .fits .known) refl (clean-sound 0 64)),
+)
 
-  pub resume-keeps : soundAt lpc flash memory (resumed s .session) ≡ true
-  unfolding soundAt sound sessionSound
-  resume-keeps = either (s .suspended) (withAccess false (clearBits controlLost (s .events)) s) e
-
-  pub resume-changed-keeps : soundAt lpc flash memory (resumedChanged s .session) ≡ true
-  resume-changed-keeps =
-      either (s .suspended) (dropWindow (withAccess false (setBits windowReset (clearBits controlLost (s .events))) s))
-      (refitted lpc flash memory s _ e (measured lpc flash memory s e .fits .known) refl (clean-sound 0 64))
-
--- a fresh session is sound wherever any is
-pub fresh-sound : (lpc flash memory : ℕ) (s : Session) → soundAt lpc flash memory s ≡ true → soundAt lpc flash memory fresh ≡ true
+pub fresh-sound : FreshSound
 fresh-sound lpc flash memory s e = refitted lpc flash memory s fresh e (omega arith) refl (clean-sound 0 64)

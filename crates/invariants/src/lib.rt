@@ -1,0 +1,1 @@
+// What every call keeps, proved of the definitions: specs/ has the claims, proofs/ their proofs. No code.
