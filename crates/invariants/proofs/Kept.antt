@@ -164,7 +164,7 @@ access-keeps lpc flash memory s e = (
   either lpc flash memory s e (not (s .suspended)) (withAccess true (setBits controlLost (s .events)) s) e,
   either lpc flash memory s e (s .suspended) (withAccess false (clearBits controlLost (s .events)) s) e,
   either lpc flash memory s e (s .suspended) (dropWindow (withAccess false (setBits windowReset (clearBits controlLost (s .events))) s))
-      (refitted lpc flash memory s _ e (measured lpc flash memory s e .fits .known) refl (clean-sound 0 64)),
+      (refitted lpc flash memory s (dropWindow (withAccess false (setBits windowReset (clearBits controlLost (s .events))) s)) e (measured lpc flash memory s e .fits .known) refl (clean-sound 0 64)),
 )
 
 pub fresh-sound : FreshSound
