@@ -10,7 +10,7 @@ ROOT = pathlib.Path(__file__).resolve().parent.parent
 # what follows from another error
 FOLLOWS = "was not admitted"
 # two sides that differ, a goal that does not follow, a rest that is not proved, a call of other values
-FACT = ("two types", "does not follow", "not proved that", "`search`: no proof", "give a proof of that", "no occurrence of the path", "expected type `AllHold`")
+FACT = ("two types", "does not follow", "not proved that", "`search`: no proof", "give a proof of that", "no occurrence of the path", "but this has type")
 # a name or a part that is not there
 UNFIT = ("is not in scope", "that can be named from here", "has no field", "expected type `tie.Need-")
 
