@@ -1,6 +1,6 @@
 -- A sound session stays sound: the claims stand in specs/Kept.antt.
 use mathlib.Core.Path.{_≡_, refl, sym, ap, _∙_}
-use mathlib.Core.Bool.{Bool, true, false, cond, not, _&&_}
+use mathlib.Core.Bool.{Bool, true, false, cond, not, _&&_, false≢true}
 use mathlib.Core.List.{List}
 use mathlib.Core.Logic.{_⊎_, inl, inr, ⊎-elim}
 use Prim.Native.Nat.{ℕ, _+_, _-_, _≤_, _<_, min}
@@ -8,13 +8,14 @@ use native.Mathlib.Omega.{arith}
 use lib.Dec.{leb, eqb}
 use lib.ListN.{length}
 use borrow.Author.Tests.{le-leb, eqb-true, eqb-false, not-false}
-use Rattle.units.proofs.Cases.{decided, both}
+use Rattle.units.proofs.Cases.{decided, chosen, both}
 use Rattle.units.specs.Units.{roundUp}
 use Rattle.session.specs.declared.Session.{Session}
 use Rattle.session.specs.declared.Window.{Window}
-use Rattle.session.specs.declared.Window.the-variants.{Read, Write}
+use Rattle.session.specs.declared.Window.the-variants.{Closed, Read, Write}
 use Rattle.session.specs.Record.{clean, setBits, clearBits, dropWindow, fresh}
-use Rattle.session.specs.Soundness.{activeSound, windowSound, markable, marksSound, sessionSound, sizesSound, sound, soundAt}
+use Rattle.session.specs.Soundness.{activeSound, windowSound, markable, marksSound, sessionSound, sound, soundAt}
+use Rattle.session.proofs.Facts.{refitted}
 use Rattle.session.specs.Suspension.{controlLost, windowReset, withAccess, answer, suspended}
 use Rattle.flush.specs.Actions.{dirty, erasedMark}
 use Rattle.refusals.specs.declared.Board.{Board}
@@ -22,28 +23,26 @@ use Rattle.refusals.specs.declared.Reason.{Reason}
 use Rattle.refusals.specs.declared.Reason.the-variants.{Accepted, System, Repeated, Unknown, Suspended, Windowless, Argument}
 use Rattle.refusals.specs.Registers.{commandOf, argument, number}
 use Rattle.refusals.specs.Refusals.{blocksNamed, flushMarks, argumentBroken, isWrite, windowless, reasonFor}
-use Rattle.refusals.proofs.Accepting.{passed, measured, named-within, create-argument, mark-argument, last-known}
+use Rattle.refusals.proofs.Accepting.{passed, measured, named-within, create-argument, mark-argument, flush-argument, last-known}
 use Rattle.mailbox.specs.Commands.{Outcome, withVersion, withMarks, sizeFor, hint, marked, created, ackAnswer}
 use Rattle.mailbox.specs.Mediator.{numbered, isCreate, served, answerTo, mediate}
-use Rattle.invariants.specs.Kept.{FreshSound, CommandKeeps, AccessKeeps}
+use Rattle.invariants.specs.Kept.{FreshSound, CommandKeeps, AccessKeeps, FlushSound}
 use Rattle.mailbox.proofs.Front.{size-fits}
-use Rattle.mailbox.proofs.Guarded.{write-is}
-use Rattle.mailbox.proofs.MarksKept.{clean-sound, marked-sound}
+use Rattle.invariants.proofs.MarksKept.{clean-sound, marked-sound}
 
--- the same sizes, and a session that fits them
-refitted : (lpc flash memory : ℕ) (s t : Session) → soundAt lpc flash memory s ≡ true → t .version ≤ 2
+-- the same sizes and B, and a session that fits them
+refitted-at : (lpc flash memory : ℕ) (s t : Session) → soundAt lpc flash memory s ≡ true → t .version ≤ 2
     → windowSound (t .window) (t .first) (t .size) (roundUp flash) (roundUp memory) ≡ true → marksSound (markable (t .window) (t .size)) (t .marks) ≡ true
     → soundAt lpc flash memory t ≡ true
-unfolding soundAt sound sessionSound
-refitted lpc flash memory s t e v w m =
+unfolding soundAt
+refitted-at lpc flash memory s t e v w m =
     let p = both (sound flash memory s) (leb (lpc + roundUp memory) 65536) e in
-    let q = both (sizesSound flash memory) _ (p .0) in
-    rw (p .1, q .0, le-leb (t .version) 2 v, w, m)
+    rw (p .1, refitted flash memory s t (p .0) v w m)
 
--- a choice of two
-chosen : (P : Outcome → Type 0) (b : Bool) (x y : Outcome) → (b ≡ true → P x) → (b ≡ false → P y) → P (cond b x y)
-chosen P true x y f g = f refl
-chosen P false x y f g = g refl
+write-is : (w : Window) → isWrite w ≡ true → w ≡ Write
+write-is Closed e = absurd (false≢true e)
+write-is Read e = absurd (false≢true e)
+write-is Write e = refl
 
 positive : (n : ℕ) → (n ≡ 0 → ⊥) → 1 ≤ n
 positive n h = omega arith
@@ -62,7 +61,7 @@ module _ (board : Board) (s : Session) (registers flash memory : List ℕ) (e : 
 
   fits : (t : Session) → t .version ≤ 2 → windowSound (t .window) (t .first) (t .size) (roundUp (length flash)) (roundUp (length memory)) ≡ true
       → marksSound (markable (t .window) (t .size)) (t .marks) ≡ true → soundAt (board .lpc) (length flash) (length memory) t ≡ true
-  fits t v w m = refitted (board .lpc) (length flash) (length memory) s t e v w m
+  fits t v w m = refitted-at (board .lpc) (length flash) (length memory) s t e v w m
 
   known : s .version ≤ 2
   known = measured (board .lpc) (length flash) (length memory) s e .fits .known
@@ -164,8 +163,22 @@ access-keeps lpc flash memory s e = (
   either lpc flash memory s e (not (s .suspended)) (withAccess true (setBits controlLost (s .events)) s) e,
   either lpc flash memory s e (s .suspended) (withAccess false (clearBits controlLost (s .events)) s) e,
   either lpc flash memory s e (s .suspended) (dropWindow (withAccess false (setBits windowReset (clearBits controlLost (s .events))) s))
-      (refitted lpc flash memory s (dropWindow (withAccess false (setBits windowReset (clearBits controlLost (s .events))) s)) e (measured lpc flash memory s e .fits .known) refl (clean-sound 0 64)),
+      (refitted-at lpc flash memory s (dropWindow (withAccess false (setBits windowReset (clearBits controlLost (s .events))) s)) e (measured lpc flash memory s e .fits .known) refl (clean-sound 0 64)),
 )
 
 pub fresh-sound : FreshSound
-fresh-sound lpc flash memory s e = refitted lpc flash memory s fresh e (omega arith) refl (clean-sound 0 64)
+fresh-sound lpc flash memory s e = refitted-at lpc flash memory s fresh e (omega arith) refl (clean-sound 0 64)
+
+pub flush-sound : FlushSound
+flush-sound board s registers flash memory a =
+    let p = passed board s registers (length flash) (length memory) a in
+    let numbered-sound = measured (board .lpc) (length flash) (length memory) (numbered s registers) (numbered-keeps board s registers flash memory (p .sounds)) .sound in (
+      numbered-sound,
+      λ c.
+          chosen (λ (t : Session). sound (length flash) (length memory) t ≡ true) (flushMarks s registers) (marked dirty (numbered s registers) registers) (numbered s registers)
+          (λ m.
+          measured (board .lpc) (length flash) (length memory) (marked dirty (numbered s registers) registers)
+          (marked-keeps board s registers flash memory (p .sounds) dirty refl (write-is (s .window) (not-false (isWrite (s .window)) (rw c at (p .windowed)))) (flush-argument s registers (roundUp (length flash)) (p .argued) c m))
+          .sound)
+          (λ _. numbered-sound),
+    )

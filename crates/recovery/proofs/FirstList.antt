@@ -5,20 +5,20 @@ use mathlib.Core.List.{List, [], _∷_, _++_, append-nil}
 use mathlib.Core.Logic.{_⊎_, inl, inr, ⊎-elim}
 use Prim.Native.Nat.{ℕ, zero, suc, _+_, _-_, _/_, _≤_, _<_}
 use native.Mathlib.Omega.{arith}
-use lib.Dec.{ltb, leb, eqb}
+use lib.Dec.{ltb, eqb}
 use lib.ListN.{length, getD, take, drop, replicate, drop-of-length-le}
 use lib.Seq.{take-add, take-all}
 use borrow.Author.Tests.{le-leb, lt-ltb, ltb-true, ltb-false}
-use Rattle.units.proofs.Cases.{decided, below-or, both}
+use Rattle.units.proofs.Cases.{decided, below-or}
 use Rattle.units.specs.Units.{toBytes}
 use Rattle.session.specs.declared.Session.{Session}
 use Rattle.session.specs.declared.Window.{Window}
 use Rattle.session.specs.declared.Window.the-variants.{Write}
 use Rattle.session.specs.Record.{setBits, clearBits}
-use Rattle.session.specs.Soundness.{marksSound, markable, sizesSound, sessionSound, sound}
+use Rattle.session.specs.Soundness.{marksSound, markable, sound}
 use Rattle.session.specs.declared.suspension.Suspension.{Suspension}
 use Rattle.session.specs.Suspension.{controlLost, withAccess, answer as saying, suspended, resumed}
-use Rattle.session.proofs.Facts.{sizes, fitting, part-within}
+use Rattle.session.proofs.Facts.{sizes, fitting, refitted, part-within}
 use Rattle.buffers.proofs.Replace.{range-at}
 use Rattle.flush.specs.Actions.{Action, flushActions, performAll}
 use Rattle.flush.specs.Cut.{passed, ahead, progress, blockAt, leaves}
@@ -31,11 +31,9 @@ use Rattle.recovery.specs.Cut.{Event, step, suspend, resume, State, Said
 -- ---- a session is as sound as another with the same window and marks, if its version is known
 pub sound-as : (flash memory : ℕ) (s t : Session) → sound flash memory s ≡ true → t .version ≤ 2 → t .window ≡ s .window → t .first ≡ s .first
     → t .size ≡ s .size → t .marks ≡ s .marks → sound flash memory t ≡ true
-unfolding sound sessionSound
 sound-as flash memory s t e v w f z m =
-    let p = both (sizesSound flash memory) _ e in
-    let q = both (leb (s .version) 2) _ (p .1) in
-    rw (p .0, le-leb (t .version) 2 v, w, f, z, m) (q .1)
+    let g = fitting _ _ s (sizes flash memory s e .2) in
+    refitted flash memory s t e v (rw (w, f, z) (g .window)) (rw (w, z, m) (g .marks))
 
 -- neither of two tests holds
 either : (p q : Bool) → (p || q) ≡ false → (p ≡ false) × (q ≡ false)

@@ -7,6 +7,7 @@ use Prim.Native.Nat.{ℕ, zero, suc, _+_, _*_, _%_, _^_, _≤_, _<_}
 use native.Mathlib.Omega.{arith}
 use lib.Dec.{ltb, leb, eqb}
 use lib.ListN.{drop, set, replicate}
+use Rattle.units.proofs.Cases.{chosen}
 use Rattle.leb128.specs.Groups.{Decoded, found, cutShort, notShortest, before, decode, bounded, readAt}
 use Rattle.leb128.specs.declared.Read.{Read}
 use Rattle.leb128.specs.declared.Read.the-variants.{Number, Short, Malformed}
@@ -33,8 +34,7 @@ Beyond at Malformed = Unit {0}
 
 -- what holds of both holds of the one that is chosen
 either : {A : Type 0} (P : A → Type 0) (t : Bool) (r s : A) → P r → P s → P (cond t r s)
-either P true r s h k = h
-either P false r s h k = k
+either P t r s h k = chosen P t r s (λ _. h) (λ _. k)
 
 sized-before : (low : ℕ) (d : Decoded) → Sized (before low d)
 sized-before low (found rest size) = either Sized (eqb rest 0) notShortest (found (rest * 128 + low) (size + 1)) tt (omega arith)

@@ -4,7 +4,7 @@ use mathlib.Core.Bool.{true, _&&_}
 use lib.Dec.{leb}
 use Prim.Native.Nat.{ℕ, _+_, _≤_, _<_}
 use native.Mathlib.Omega.{arith}
-use borrow.Author.Tests.{leb-true, eqb-true}
+use borrow.Author.Tests.{leb-true, eqb-true, le-leb}
 use Rattle.units.proofs.Cases.{both}
 use Rattle.units.specs.Units.{toBytes, roundUp, toBlocks}
 use Rattle.session.specs.declared.Session.{Session}
@@ -68,6 +68,13 @@ fitting S C s e =
     let q = both _ _ (p .1) in
     let w = window-within (s .window) (s .first) (s .size) S C (q .0) in
     record { known = leb-true _ _ (p .0); in-flash = w .0; in-memory = w .1; window = q .0; marks = q .1 }
+
+-- and the other way: a session that fits the sizes of a sound one is sound
+pub refitted : (flash memory : ℕ) (s t : Session) → sound flash memory s ≡ true → t .version ≤ 2
+    → windowSound (t .window) (t .first) (t .size) (roundUp flash) (roundUp memory) ≡ true → marksSound (markable (t .window) (t .size)) (t .marks) ≡ true
+    → sound flash memory t ≡ true
+unfolding sound sessionSound
+refitted flash memory s t e v w m = rw (both (sizesSound flash memory) _ e .0, le-leb (t .version) 2 v, w, m)
 
 -- and in bytes: the window's part lies in the flash, and its blocks in the window memory
 pub part-within : (flash memory : ℕ) (s : Session) → sound flash memory s ≡ true

@@ -25,27 +25,25 @@ module _ (board : Board) (input : List ℕ) where
   run-none zero at s flash memory h = refl
   run-none (suc turns) at s flash memory h = rw (le-ltb at (length input) h)
 
-  -- a record that keeps the rules, and the rest
-  run-good : (turns at : ℕ) (s : Session) (flash memory : List ℕ) (item : Item) → item ≡ recordAt input at → at < length input
-      → effect board item s flash memory .served .good ≡ true
-      → runFrom (suc turns) board input at s flash memory
-      ≡ after (answerText (item .kind) (effect board item s flash memory .served .registers))
-      (runFrom turns board input (item .next) (effect board item s flash memory .served .session) (effect board item s flash memory .flash) (effect board item s flash memory .memory))
-  unfolding runFrom
-  run-good turns at s flash memory item e h good =
-      ap (λ (b : Bool). cond b (turned (runFrom turns board input (recordAt input at .next)) at (recordAt input at .kind) (effect board (recordAt input at) s flash memory)) (ended [] flash)) (lt-ltb at (length input) h)
-      ∙ ap (λ (i : Item). turned (runFrom turns board input (i .next)) at (i .kind) (effect board i s flash memory)) (sym e)
-      ∙ ap (λ (b : Bool). cond b (after (answerText (item .kind) (effect board item s flash memory .served .registers)) (runFrom turns board input (item .next) (effect board item s flash memory .served .session) (effect board item s flash memory .flash) (effect board item s flash memory .memory))) (ended (badLine at) (effect board item s flash memory .flash))) good
+  -- a record, and the rest
+  module _ (turns at : ℕ) (s : Session) (flash memory : List ℕ) (item : Item) (read : item ≡ recordAt input at) (here : at < length input) where
+    abbrev e : Effect
+    e = effect board item s flash memory
 
-  -- and one that breaks them
-  run-bad : (turns at : ℕ) (s : Session) (flash memory : List ℕ) (item : Item) → item ≡ recordAt input at → at < length input
-      → effect board item s flash memory .served .good ≡ false
-      → runFrom (suc turns) board input at s flash memory ≡ ended (badLine at) (effect board item s flash memory .flash)
-  unfolding runFrom
-  run-bad turns at s flash memory item e h bad =
-      ap (λ (b : Bool). cond b (turned (runFrom turns board input (recordAt input at .next)) at (recordAt input at .kind) (effect board (recordAt input at) s flash memory)) (ended [] flash)) (lt-ltb at (length input) h)
-      ∙ ap (λ (i : Item). turned (runFrom turns board input (i .next)) at (i .kind) (effect board i s flash memory)) (sym e)
-      ∙ ap (λ (b : Bool). cond b (after (answerText (item .kind) (effect board item s flash memory .served .registers)) (runFrom turns board input (item .next) (effect board item s flash memory .served .session) (effect board item s flash memory .flash) (effect board item s flash memory .memory))) (ended (badLine at) (effect board item s flash memory .flash))) bad
+    abbrev goes : Ran
+    goes = after (answerText (item .kind) (e .served .registers)) (runFrom turns board input (item .next) (e .served .session) (e .flash) (e .memory))
+
+    run-turn : runFrom (suc turns) board input at s flash memory ≡ cond (e .served .good) goes (ended (badLine at) (e .flash))
+    unfolding runFrom
+    run-turn =
+        ap (λ (b : Bool). cond b (turned (runFrom turns board input (recordAt input at .next)) at (recordAt input at .kind) (effect board (recordAt input at) s flash memory)) (ended [] flash)) (lt-ltb at (length input) here)
+        ∙ ap (λ (i : Item). turned (runFrom turns board input (i .next)) at (i .kind) (effect board i s flash memory)) (sym read)
+
+    run-good : e .served .good ≡ true → runFrom (suc turns) board input at s flash memory ≡ goes
+    run-good good = run-turn ∙ ap (λ (b : Bool). cond b goes (ended (badLine at) (e .flash))) good
+
+    run-bad : e .served .good ≡ false → runFrom (suc turns) board input at s flash memory ≡ ended (badLine at) (e .flash)
+    run-bad bad = run-turn ∙ ap (λ (b : Bool). cond b goes (ended (badLine at) (e .flash))) bad
 
   -- a turn more, where the rest is the same
   turn-alike : (m n at : ℕ) (s : Session) (flash memory : List ℕ) → at < length input

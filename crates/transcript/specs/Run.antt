@@ -47,7 +47,8 @@ bench = record { lpc = 16; timeout = 8 }
 unfoldable pub blank : ℕ → List ℕ
 blank blocks = replicate (toBytes blocks) 0xff
 
--- all records: each has a byte at least, so there are no more than bytes
+-- all records: each has a byte at least, so there are no more than bytes. The window memory begins as FF, which nothing shows: a create
+-- copies over what a window has
 abbrev pub ran : List ℕ → Ran
 ran input = runFrom (length input) bench input 0 fresh (blank 4) (blank 2)
 

@@ -27,7 +27,7 @@ pub(crate) fn put(text: &mut [u8], at: usize, part: &[u8]) -> usize
 }
 
 // Puts a number in decimal.
-pub(crate) fn put_decimal(text: &mut [u8], at: usize, n: usize) -> usize
+fn put_decimal(text: &mut [u8], at: usize, n: usize) -> usize
     requires { ⌜ at ≤ 1000000 ⌝ }
     ensures { λ r. ⌜ (r ≡ at + length (decimal n))
         × (now (text .exit) ≡ written at (decimal n) (now (text .entry))) × (r ≤ at + 20) ⌝ }
