@@ -4,13 +4,12 @@
 // written from block b of the window. An action outside of it answers no and changes nothing.
 use buffers::and;
 use buffers::fill;
+use units::BLOCK;
 use units::Blocks;
 ghost use mathlib.Core.Path.{_≡_};
 ghost use Rattle.chip.specs.Actions.{hasBlock, eraseBlock, hasPage, programPage};
 
-// The bytes of a block, the bytes of a page, and the pages of a block.
-const BLOCK: usize = 4096;
-
+// The bytes of a page, and the pages of a block.
 const PAGE: usize = 256;
 
 const PAGES: u32 = 16;
@@ -24,7 +23,7 @@ pub fn erase_block(flash: &mut [u8], block: Blocks) -> bool
         × (now (flash .exit) ≡ eraseBlock (block .0) (now (flash .entry))) ⌝ }
 {
     let start = block.bytes().0 as usize;
-    let end = start + BLOCK;
+    let end = start + BLOCK as usize;
     if flash.len() < end {
         return false;
     }
@@ -38,7 +37,7 @@ pub fn program_page(flash: &mut [u8], window: &[u8], block: Blocks, page: u32) -
         × (now (flash .exit) ≡ programPage (block .0) page (now (window .entry)) (now (flash .entry))) ⌝ }
 {
     let start = block.bytes().0 as usize;
-    let end = start + BLOCK;
+    let end = start + BLOCK as usize;
     if PAGES <= page {
         return false;
     }

@@ -9,14 +9,13 @@ use lib.ListN.{getD, take, replicate}
 use Rattle.units.specs.Units.{blockBytes}
 use Rattle.buffers.specs.Ranges.{range, replace}
 use Rattle.chip.specs.Actions.{pageBytes}
-use Rattle.session.specs.declared.Session.{Session}
 use Rattle.session.specs.declared.Window.{Window}
 use Rattle.session.specs.declared.Window.the-variants.{Closed, Read, Write}
+use Rattle.session.specs.Machine.{Setup, setUp, Machine, lent, holding}
 use Rattle.session.specs.Record.{fresh}
 use Rattle.session.specs.Suspension.{suspended}
 use Rattle.flush.specs.Actions.{Action, program, perform}
 use Rattle.flush.specs.Window.{Advanced, advanced}
-use Rattle.refusals.specs.declared.Board.{Board}
 use Rattle.mailbox.specs.Commands.{Outcome}
 use Rattle.mailbox.specs.Mediator.{mediate}
 
@@ -24,9 +23,7 @@ use Rattle.mailbox.specs.Mediator.{mediate}
 
 -- what a call is given and leaves, with the answer of the last command or step
 pub record State : Type 0 where
-  pub session : Session
-  pub flash : List ℕ
-  pub memory : List ℕ
+  pub machine : Machine
   pub code : ℕ
   pub arguments : List ℕ
   pub actions : ℕ
@@ -66,8 +63,8 @@ holds example = passes (example .start) (example .lines)
 -- ---- where the examples start
 
 -- "B = 16"; T = 8, as in the bench program
-abbrev pub board : Board
-board = record { lpc = 16; timeout = 8 }
+abbrev pub setup : Setup
+setup = setUp (record { lpc = 16; timeout = 8 })
 
 -- for each value a block that is filled with it
 abbrev pub blocks : List ℕ → List ℕ
@@ -76,15 +73,7 @@ blocks (value ∷ values) = replicate blockBytes value ++ blocks values
 
 -- a fresh session with this flash and window memory
 abbrev pub freshWith : List ℕ → List ℕ → State
-freshWith flash memory =
-    record {
-      session = fresh;
-      flash = flash;
-      memory = memory;
-      code = 0;
-      arguments = [];
-      actions = 0;
-    }
+freshWith flash memory = record { machine = lent fresh flash memory; code = 0; arguments = []; actions = 0 }
 
 -- "S = 4, C = 2"; no two blocks are alike
 abbrev pub start : State
@@ -100,26 +89,22 @@ padded n xs = take n (xs ++ replicate n 0)
 abbrev pub replied : Outcome → State
 replied o =
     record {
-      session = o .answer .session;
-      flash = o .flash;
-      memory = o .memory;
-      code = getD (o .answer .registers) 13 0;
-      arguments = range 2 11 (o .answer .registers);
-      actions = o .answer .actions;
+      machine = o .machine;
+      code = getD (o .registers) 13 0;
+      arguments = range 2 11 (o .registers);
+      actions = o .actions;
     }
 
 -- a mailbox command, from register 0 on: the command (2 GET_INFO, 4 and 6 create a read or write window, 7 MARK_DIRTY, 8 FLUSH, 10 ERASE),
 -- the sequence, the arguments; registers that are not given are 0
 abbrev pub command : List ℕ → Call
-command registers s = replied (mediate board (s .session) (padded 16 registers) (s .flash) (s .memory))
+command registers s = replied (mediate setup (padded 16 registers) (s .machine))
 
 -- the state that a step leaves; its yes is one action, its no none
 abbrev pub stepped : Advanced → State → State
 stepped a s =
     record {
-      session = s .session;
-      flash = a .flash;
-      memory = s .memory;
+      machine = lent (s .machine .session) (a .flash) (s .machine .memory);
       code = a .code;
       arguments = [];
       actions = cond (a .yes) 1 0;
@@ -127,31 +112,23 @@ stepped a s =
 
 -- the flush advanced by one action, when so many are done
 abbrev pub step : ℕ → Call
-step done s = stepped (advanced (s .session) (s .memory) done (s .flash)) s
+step done s = stepped (advanced (s .machine) done) s
 
--- the state with another session, flash and window memory
-abbrev pub changed : Session → List ℕ → List ℕ → State → State
-changed session flash memory s =
-    record {
-      session = session;
-      flash = flash;
-      memory = memory;
-      code = s .code;
-      arguments = s .arguments;
-      actions = s .actions;
-    }
+-- the state after a call that answers nothing
+abbrev pub changed : Machine → State → State
+changed m s = record { machine = m; code = s .code; arguments = s .arguments; actions = s .actions }
 
 -- flash access is suspended
 abbrev pub suspend : Call
-suspend s = changed (suspended (s .session) .session) (s .flash) (s .memory) s
+suspend s = changed (holding (suspended (s .machine .session) .session) (s .machine)) s
 
 -- the host writes these bytes to the front of window memory
 abbrev pub write : List ℕ → Call
-write bytes s = changed (s .session) (s .flash) (replace 0 bytes (s .memory)) s
+write bytes s = changed (lent (s .machine .session) (s .machine .flash) (replace 0 bytes (s .machine .memory))) s
 
 -- a chip action by itself
 abbrev pub act : Action → Call
-act action s = changed (s .session) (perform (s .memory) action (s .flash)) (s .memory) s
+act action s = changed (lent (s .machine .session) (perform (s .machine .memory) action (s .machine .flash)) (s .machine .memory)) s
 
 -- ---- the checks
 
@@ -180,7 +157,7 @@ actions n s = eqb (s .actions) n
 
 -- the agreed version
 abbrev pub version : ℕ → Check
-version n s = eqb (s .session .version) n
+version n s = eqb (s .machine .session .version) n
 
 -- a number for each kind of window
 abbrev pub kind : Window → ℕ
@@ -191,19 +168,19 @@ kind Write = 2
 -- "the window (none, read or write, first flash block, size)"
 abbrev pub window : Window → ℕ → ℕ → Check
 window expected first size s =
-    eqb (kind (s .session .window)) (kind expected) && (eqb (s .session .first) first && eqb (s .session .size) size)
+    eqb (kind (s .machine .session .window)) (kind expected) && (eqb (s .machine .session .first) first && eqb (s .machine .session .size) size)
 
 -- the 64 marks: these, and 0 behind them
 abbrev pub marks : List ℕ → Check
-marks expected s = same (s .session .marks) (padded 64 expected)
+marks expected s = same (s .machine .session .marks) (padded 64 expected)
 
 -- every byte of the flash
 abbrev pub flash : List ℕ → Check
-flash expected s = same (s .flash) expected
+flash expected s = same (s .machine .flash) expected
 
 -- every byte of the window memory
 abbrev pub memory : List ℕ → Check
-memory expected s = same (s .memory) expected
+memory expected s = same (s .machine .memory) expected
 
 -- ---- the twelve: "S = 4, C = 2, B = 16, version 2 unless said"
 
@@ -353,7 +330,7 @@ example9 =
           command (2 ∷ 1 ∷ 2 ∷ []) shows (version 2 ∷ [])
           ∷ command (6 ∷ 2 ∷ 1 ∷ 0 ∷ 1 ∷ 0 ∷ []) shows (window Write 1 1 ∷ [])
           ∷ write (paged 0x11 0x3c) shows []
-          ∷ command (7 ∷ 3 ∷ 0 ∷ 0 ∷ 1 ∷ 0 ∷ []) shows (marks (1 ∷ []) ∷ flash (start .flash) ∷ [])
+          ∷ command (7 ∷ 3 ∷ 0 ∷ 0 ∷ 1 ∷ 0 ∷ []) shows (marks (1 ∷ []) ∷ flash (start .machine .flash) ∷ [])
           ∷ step 0 shows (code 1 ∷ actions 1 ∷ flash (withBlock1 (paged 0xff 0xff)) ∷ [])
           ∷ step 1 shows (code 1 ∷ actions 1 ∷ flash (withBlock1 (paged 0x11 0xff)) ∷ [])
           ∷ (steps 2 14
@@ -373,9 +350,9 @@ example10 =
           ∷ write (blocks (0x3c ∷ 0x3c ∷ [])) shows []
           ∷ command (7 ∷ 3 ∷ 0 ∷ 0 ∷ 1 ∷ 0 ∷ []) shows (marks (1 ∷ []) ∷ [])
           ∷ suspend shows []
-          ∷ command (8 ∷ 4 ∷ []) shows (refused 6 ∷ actions 0 ∷ marks (1 ∷ []) ∷ flash (start .flash) ∷ [])
+          ∷ command (8 ∷ 4 ∷ []) shows (refused 6 ∷ actions 0 ∷ marks (1 ∷ []) ∷ flash (start .machine .flash) ∷ [])
           ∷ command (2 ∷ 5 ∷ 1 ∷ []) shows (version 1 ∷ [])
-          ∷ command (8 ∷ 6 ∷ []) shows (refused 5 ∷ actions 0 ∷ marks (1 ∷ []) ∷ flash (start .flash) ∷ [])
+          ∷ command (8 ∷ 6 ∷ []) shows (refused 5 ∷ actions 0 ∷ marks (1 ∷ []) ∷ flash (start .machine .flash) ∷ [])
           ∷ [];
     }
 

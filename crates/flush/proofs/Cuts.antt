@@ -1,7 +1,7 @@
 -- A flush that is cut after j of its actions, and a flush that is run to its end. Everything is said of one block or one byte of the window's
 -- part: what its own actions among the first j leave, and what all of them leave whatever was there before.
 use mathlib.Core.Path.{_≡_, refl, sym, ap, _∙_, subst}
-use mathlib.Core.Bool.{Bool, true, false, cond, true≢false}
+use mathlib.Core.Bool.{Bool, true, false, cond, _||_, true≢false}
 use mathlib.Core.List.{List, [], _∷_, _++_, append-nil}
 use mathlib.Core.Logic.{_⊎_, inl, inr, ⊎-elim}
 use Prim.Native.Nat.{ℕ, zero, suc, _+_, _-_, _*_, _/_, _≤_, _<_}
@@ -13,11 +13,12 @@ use lib.Seq.{ext-getD}
 use borrow.Author.Tests.{eq-eqb, ne-eqb, eqb-true, eqb-false, leb-true}
 use Rattle.units.proofs.Cases.{decided, below-or, both}
 use Rattle.units.specs.Units.{toBytes}
+use Rattle.session.specs.Marks.{erasedMark, erases, programs, isMarked}
 use Rattle.session.specs.Soundness.{marksSound}
 use Rattle.flush.specs.Actions.{Action, erase, program, pagesFrom, blockActions, actionsFrom, flushActions, performAll}
 use Rattle.flush.specs.Cut.{blockOf, own, none, passed, underWork, ahead, progress, blockAt, leaves}
 use Rattle.buffers.proofs.Replace.{range-length, range-at}
-use Rattle.flush.proofs.Lists.{by-mark, perform-none}
+use Rattle.flush.proofs.Lists.{by-asked, unmarked-none, clear-none, perform-none}
 use Rattle.flush.proofs.Bytes.{byteAfter, bytesAfter, bytes-append, In, AllIn, performed-length, performed-byte}
 
 -- ---- every action of sound marks lies in the window
@@ -40,12 +41,11 @@ all-pages n b p zero h l = tt
 all-pages n b p (suc k) h l = ((h, omega arith), all-pages n b (suc p) k h (omega arith))
 
 all-block : (n b mark : ℕ) → b < n → AllIn n (blockActions b mark)
-all-block n b mark h = by-mark (AllIn n) b mark (λ e. (h, all-pages n b 0 16 h (omega arith))) (λ e. (h, tt)) (λ t u. tt)
+all-block n b mark h =
+    by-asked (AllIn n) b mark (λ e p. (h, all-pages n b 0 16 h (omega arith))) (λ e p. (h, tt)) (λ e p. all-pages n b 0 16 h (omega arith)) (λ e p. tt)
 
 none-block : (n b mark : ℕ) → leb mark 0 ≡ true → AllIn n (blockActions b mark)
-none-block n b mark t =
-    let z : mark ≤ 0 = leb-true mark 0 t in
-    by-mark (AllIn n) b mark (λ e. absurd (omega arith)) (λ e. absurd (omega arith)) (λ t u. tt)
+none-block n b mark t = subst (AllIn n) (sym (clear-none b mark (leb-true mark 0 t))) tt
 
 from-cons : (n b m : ℕ) (ms : List ℕ) → AllIn n (blockActions b m) → AllIn n (actionsFrom (suc b) ms) → AllIn n (actionsFrom b (m ∷ ms))
 unfolding actionsFrom
@@ -173,7 +173,8 @@ rising-pages b p (suc k) rest r = (omega arith, rising-pages b (suc p) k rest r)
 rising-block : (b mark : ℕ) (rest : List Action) → Rising b rest → Rising b (blockActions b mark ++ rest)
 unfolding Rising
 rising-block b mark rest r =
-    by-mark (λ xs. Rising b (xs ++ rest)) b mark (λ e. (omega arith, rising-pages b 0 16 rest r)) (λ e. (omega arith, r)) (λ t u. r)
+    by-asked (λ xs. Rising b (xs ++ rest)) b mark
+    (λ e p. (omega arith, rising-pages b 0 16 rest r)) (λ e p. (omega arith, r)) (λ e p. rising-pages b 0 16 rest r) (λ e p. r)
 
 rising-from : (b : ℕ) (marks : List ℕ) → Rising b (actionsFrom b marks)
 unfolding Rising actionsFrom
@@ -272,9 +273,16 @@ module _ (n : ℕ) (memory : List ℕ) (room : toBytes n ≤ length memory) (par
           (decided (none (own b (drop j actions))))
 
 -- ---- the flush run to its end, byte by byte
--- what a mark makes of a byte: dirty blocks become the window's bytes, erased blocks become FF
+-- what a mark makes of a byte: an erase makes it FF, and programming ANDs the window's byte to what is there
+abbrev pub byteBy : Bool → Bool → ℕ → ℕ → ℕ
+byteBy erased programmed new old = cond programmed (bitAnd (cond erased 0xff old) new) (cond erased 0xff old)
+
 abbrev pub byteOf : ℕ → ℕ → ℕ → ℕ
-byteOf mark new old = cond (eqb mark 1) (bitAnd 0xff new) (cond (eqb mark 2) 0xff old)
+byteOf mark new old = byteBy (erases mark) (programs mark) new old
+
+byte-as : {e p : Bool} (mark new old : ℕ) → erases mark ≡ e → programs mark ≡ p → byteBy e p new old ≡ byteOf mark new old
+byte-as {e} {p} mark new old q r =
+    sym (ap (λ (t : Bool). byteBy t (programs mark) new old) q ∙ ap (λ (t : Bool). byteBy e t new old) r)
 
 module _ (memory : List ℕ) (x : ℕ) where
   -- page p and the k after it, by whether x is in page p
@@ -309,27 +317,26 @@ module _ (memory : List ℕ) (x : ℕ) where
 
   block-miss : (b mark old : ℕ) → (x / 4096 ≡ b → ⊥) → bytesAfter memory (blockActions b mark) x old ≡ old
   block-miss b mark old d =
-      by-mark (λ xs. bytesAfter memory xs x old ≡ old) b mark
-      (λ e. erasing b old (pagesFrom b 0 16) (ne-eqb (x / 4096) b d) ∙ pages-miss b 0 16 old (side (below-or (x / 256) (b * 16 + 0))))
-      (λ e. erasing b old [] (ne-eqb (x / 4096) b d))
-      (λ t u. refl)
+      by-asked (λ xs. bytesAfter memory xs x old ≡ old) b mark
+      (λ e p. erasing b old (pagesFrom b 0 16) (ne-eqb (x / 4096) b d) ∙ pages)
+      (λ e p. erasing b old [] (ne-eqb (x / 4096) b d))
+      (λ e p. pages)
+      (λ e p. refl)
     where
       side : (x / 256 < b * 16 + 0) ⊎ (b * 16 + 0 ≤ x / 256) → (x / 256 < b * 16 + 0) ⊎ (b * 16 + 0 + 16 ≤ x / 256)
       side o = ⊎-elim inl (λ (l : b * 16 + 0 ≤ x / 256). inr (omega arith)) o
 
+      pages : bytesAfter memory (pagesFrom b 0 16) x old ≡ old
+      pages = pages-miss b 0 16 old (side (below-or (x / 256) (b * 16 + 0)))
+
   block-hit : (b mark old : ℕ) → x / 4096 ≡ b → bytesAfter memory (blockActions b mark) x old ≡ byteOf mark (getD memory x 0) old
-  block-hit b mark old e =
-      let here : eqb (x / 4096) b ≡ true = eq-eqb (x / 4096) b e in
-      by-mark (λ xs. bytesAfter memory xs x old ≡ byteOf mark (getD memory x 0) old) b mark
-      (λ d. erasing b old (pagesFrom b 0 16) here ∙ pages-hit b 0 16 0xff (omega arith) (omega arith) ∙ sym (ap (λ (t : Bool). cond t (bitAnd 0xff (getD memory x 0)) (cond (eqb mark 2) 0xff old)) (eq-eqb mark 1 d)))
-      (λ d. erasing b old [] here ∙ sym (by-erased d))
-      (λ t u. rw (t, u))
-    where
-      by-erased : mark ≡ 2 → byteOf mark (getD memory x 0) old ≡ 0xff
-      by-erased d =
-          let t : eqb mark 1 ≡ false = ne-eqb mark 1 (λ q. omega arith) in
-          let u : eqb mark 2 ≡ true = eq-eqb mark 2 d in
-          rw (t, u)
+  block-hit b mark old h =
+      let here : eqb (x / 4096) b ≡ true = eq-eqb (x / 4096) b h in
+      by-asked (λ xs. bytesAfter memory xs x old ≡ byteOf mark (getD memory x 0) old) b mark
+      (λ e p. erasing b old (pagesFrom b 0 16) here ∙ pages-hit b 0 16 0xff (omega arith) (omega arith) ∙ byte-as mark (getD memory x 0) old e p)
+      (λ e p. erasing b old [] here ∙ byte-as mark (getD memory x 0) old e p)
+      (λ e p. pages-hit b 0 16 old (omega arith) (omega arith) ∙ byte-as mark (getD memory x 0) old e p)
+      (λ e p. byte-as mark (getD memory x 0) old e p)
 
   -- the marks from block b on: x lies before block b
   from-before : (b : ℕ) (marks : List ℕ) (old : ℕ) → x / 4096 < b → bytesAfter memory (actionsFrom b marks) x old ≡ old
@@ -374,22 +381,29 @@ flush-byte n memory room marks sound part size x =
     whole = omega arith
 
 -- ---- whatever was there before
-byte-same : (mark new₁ new₂ old₁ old₂ : ℕ) → (mark ≡ 1 → new₁ ≡ new₂) → (eqb mark 1 ≡ false → eqb mark 2 ≡ false → old₁ ≡ old₂)
+-- every block that is programmed is erased before, so that nothing is left of what was there
+programs-erased : (mark : ℕ) → programs mark ≡ true → erases mark ≡ true
+programs-erased mark p = ap (λ (t : Bool). t || eqb mark erasedMark) p
+
+byte-same : (mark new₁ new₂ old₁ old₂ : ℕ) → (programs mark ≡ true → new₁ ≡ new₂) → (isMarked mark ≡ false → old₁ ≡ old₂)
     → byteOf mark new₁ old₁ ≡ byteOf mark new₂ old₂
 byte-same mark new₁ new₂ old₁ old₂ d n =
     ⊎-elim
-    (λ (t : eqb mark 1 ≡ true). rw t (ap (bitAnd 0xff) (d (eqb-true mark 1 t))))
-    (λ (t : eqb mark 1 ≡ false).
+    (λ (p : programs mark ≡ true).
+    let e = programs-erased mark p in
+    sym (byte-as mark new₁ old₁ e p) ∙ ap (bitAnd 0xff) (d p) ∙ byte-as mark new₂ old₂ e p)
+    (λ (p : programs mark ≡ false).
     ⊎-elim
-    (λ (u : eqb mark 2 ≡ true). rw (t, u))
-    (λ (u : eqb mark 2 ≡ false). rw (t, u) (n t u))
-    (decided (eqb mark 2)))
-    (decided (eqb mark 1))
+    (λ (e : erases mark ≡ true). sym (byte-as mark new₁ old₁ e p) ∙ byte-as mark new₂ old₂ e p)
+    (λ (e : erases mark ≡ false).
+    sym (byte-as mark new₁ old₁ e p) ∙ n (ap (λ (t : Bool). t || programs mark) e ∙ p) ∙ byte-as mark new₂ old₂ e p)
+    (decided (erases mark)))
+    (decided (programs mark))
 
--- the windows hold the same bytes in dirty blocks, and the flashes the same outside the marked ones
+-- the windows hold the same bytes in the blocks that are programmed, and the flashes the same outside the marked ones
 pub record Alike (marks memory₁ memory₂ part₁ part₂ : List ℕ) : Type 0 where
-  pub dirty : (x : ℕ) → getD marks (x / 4096) 0 ≡ 1 → getD memory₁ x 0 ≡ getD memory₂ x 0
-  pub clean : (x : ℕ) → eqb (getD marks (x / 4096) 0) 1 ≡ false → eqb (getD marks (x / 4096) 0) 2 ≡ false → getD part₁ x 0 ≡ getD part₂ x 0
+  pub dirty : (x : ℕ) → programs (getD marks (x / 4096) 0) ≡ true → getD memory₁ x 0 ≡ getD memory₂ x 0
+  pub clean : (x : ℕ) → isMarked (getD marks (x / 4096) 0) ≡ false → getD part₁ x 0 ≡ getD part₂ x 0
 
 -- then both flushes end the same
 pub flush-same : (n : ℕ) (marks : List ℕ) → marksSound n marks ≡ true → (memory₁ memory₂ part₁ part₂ : List ℕ)
@@ -416,25 +430,24 @@ own-skip b a actions t = ap (λ (u : Bool). cond u (a ∷ own b actions) (own b 
 
 own-other : (b c mark : ℕ) → (c ≡ b → ⊥) → own b (blockActions c mark) ≡ []
 own-other b c mark d =
-    by-mark (λ xs. own b xs ≡ []) c mark
-    (λ e. own-skip b (erase c) (pagesFrom c 0 16) (ne-eqb c b d) ∙ own-pages b c 0 16 d) (λ e. own-skip b (erase c) [] (ne-eqb c b d)) (λ t u. refl)
+    by-asked (λ xs. own b xs ≡ []) c mark
+    (λ e p. own-skip b (erase c) (pagesFrom c 0 16) (ne-eqb c b d) ∙ own-pages b c 0 16 d)
+    (λ e p. own-skip b (erase c) [] (ne-eqb c b d)) (λ e p. own-pages b c 0 16 d) (λ e p. refl)
 
-own-unmarked : (b c : ℕ) (marks : List ℕ) → c ≤ b → eqb (getD marks (b - c) 0) 1 ≡ false → eqb (getD marks (b - c) 0) 2 ≡ false
-    → own b (actionsFrom c marks) ≡ []
-unfolding actionsFrom blockActions
-own-unmarked b c [] l t u = refl
-own-unmarked b c (m ∷ ms) l t u =
+own-unmarked : (b c : ℕ) (marks : List ℕ) → c ≤ b → isMarked (getD marks (b - c) 0) ≡ false → own b (actionsFrom c marks) ≡ []
+unfolding actionsFrom
+own-unmarked b c [] l t = refl
+own-unmarked b c (m ∷ ms) l t =
     own-append b (blockActions c m) (actionsFrom (suc c) ms)
     ∙ ⊎-elim
     (λ (lt : c < b).
     let later : b - c ≡ suc (b - suc c) = omega arith in
     ap (λ (xs : List Action). xs ++ own b (actionsFrom (suc c) ms)) (own-other b c m (λ e. omega arith))
-    ∙ own-unmarked b (suc c) ms lt (ap (λ (i : ℕ). eqb (getD (m ∷ ms) i 0) 1) (sym later) ∙ t) (ap (λ (i : ℕ). eqb (getD (m ∷ ms) i 0) 2) (sym later) ∙ u))
+    ∙ own-unmarked b (suc c) ms lt (ap (λ (i : ℕ). isMarked (getD (m ∷ ms) i 0)) (sym later) ∙ t))
     (λ (ge : b ≤ c).
     let here : b - c ≡ 0 = omega arith in
-    let t′ : eqb m 1 ≡ false = ap (λ (i : ℕ). eqb (getD (m ∷ ms) i 0) 1) (sym here) ∙ t in
-    let u′ : eqb m 2 ≡ false = ap (λ (i : ℕ). eqb (getD (m ∷ ms) i 0) 2) (sym here) ∙ u in
-    rw (t′, u′) (above-none (suc c) b (actionsFrom (suc c) ms) (omega arith) (rising-from (suc c) ms)))
+    ap (λ (xs : List Action). own b xs ++ own b (actionsFrom (suc c) ms)) (unmarked-none c m (ap (λ (i : ℕ). isMarked (getD (m ∷ ms) i 0)) (sym here) ∙ t))
+    ∙ above-none (suc c) b (actionsFrom (suc c) ms) (omega arith) (rising-from (suc c) ms))
     (below-or c b)
 
 first-none : (xs ys : List Action) → xs ++ ys ≡ [] → xs ≡ []
@@ -449,10 +462,10 @@ own-cut b j actions e =
 -- the first j actions of a flush leave what lies outside the marked blocks
 pub cut-clean : (n : ℕ) (memory : List ℕ) → toBytes n ≤ length memory → (marks : List ℕ) → marksSound n marks ≡ true
     → (part : List ℕ) → length part ≡ toBytes n → (j x : ℕ)
-    → eqb (getD marks (x / 4096) 0) 1 ≡ false → eqb (getD marks (x / 4096) 0) 2 ≡ false
+    → isMarked (getD marks (x / 4096) 0) ≡ false
     → getD (performAll memory (take j (flushActions marks)) part) x 0 ≡ getD part x 0
 unfolding flushActions
-cut-clean n memory room marks sound part size j x t u =
+cut-clean n memory room marks sound part size j x t =
     let actions = flushActions marks in
     let all = all-take n j actions (all-flush n marks sound) in
     let place : x / 4096 - 0 ≡ x / 4096 = omega arith in
@@ -460,5 +473,4 @@ cut-clean n memory room marks sound part size j x t u =
     ∙ bytes-own memory n (take j actions) all x (getD part x 0)
     ∙ ap (λ (xs : List Action). bytesAfter memory xs x (getD part x 0))
     (own-cut (x / 4096) j actions
-    (own-unmarked (x / 4096) 0 marks (omega arith)
-    (ap (λ (i : ℕ). eqb (getD marks i 0) 1) place ∙ t) (ap (λ (i : ℕ). eqb (getD marks i 0) 2) place ∙ u)))
+    (own-unmarked (x / 4096) 0 marks (omega arith) (ap (λ (i : ℕ). isMarked (getD marks i 0)) place ∙ t)))

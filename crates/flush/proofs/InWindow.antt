@@ -11,10 +11,11 @@ use Rattle.buffers.proofs.Replace.{part-back}
 use Rattle.units.specs.Units.{toBytes}
 use Rattle.session.specs.declared.Session.{Session}
 use Rattle.flush.specs.Actions.{Action, performAll}
+use Rattle.session.specs.Machine.{Machine}
 use Rattle.session.specs.Soundness.{sound}
 use Rattle.flush.specs.declared.window.Step.{Step}
 use Rattle.flush.specs.declared.window.Step.the-variants.{Unsound, Suspended, Acted, Finished}
-use Rattle.flush.specs.Window.{windowActions, windowPart, performIn, performStep, stepCode, stepYes, advanced, flushWhole}
+use Rattle.flush.specs.Window.{windowActions, windowPart, performIn, performStep, stepped, advanced, flushWhole}
 
 module _ (s : Session) (memory flash ys : List ℕ) (a n : ℕ) (start : a ≡ toBytes (s .first)) (size : n ≡ toBytes (s .size)) (fits : a + n ≤ length flash)
     (kept : length ys ≡ length (midOf a (a + n - a) flash)) where
@@ -33,35 +34,33 @@ module _ (s : Session) (memory flash ys : List ℕ) (a n : ℕ) (start : a ≡ t
       ∙ ap (λ (k : ℕ). replace k (performAll memory actions (windowPart s flash)) flash) start
 
 -- ---- the four answers of a step, and the two of a whole flush
-module _ (s : Session) (memory : List ℕ) (done : ℕ) (flash : List ℕ) where
+module _ (m : Machine) (done : ℕ) where
   abbrev pub Answers : Step → List ℕ → Type 0
-  Answers answer after =
-      (stepCode answer ≡ advanced s memory done flash .code) × (stepYes answer ≡ advanced s memory done flash .yes)
-      × (after ≡ advanced s memory done flash .flash)
+  Answers answer after = stepped answer after ≡ advanced m done
 
-  pub unsound : sound (length flash) (length memory) s ≡ false → Answers Unsound flash
+  pub unsound : sound (length (m .flash)) (length (m .memory)) (m .session) ≡ false → Answers Unsound (m .flash)
   unfolding advanced
-  unsound t = (rw t, rw t, rw t)
+  unsound t = rw t
 
-  module _ (t : sound (length flash) (length memory) s ≡ true) where
-    pub suspended : s .suspended ≡ true → Answers Suspended flash
+  module _ (t : sound (length (m .flash)) (length (m .memory)) (m .session) ≡ true) where
+    pub suspended : m .session .suspended ≡ true → Answers Suspended (m .flash)
     unfolding advanced
-    suspended u = (rw (t, u), rw (t, u), rw (t, u))
+    suspended u = rw (t, u)
 
-    pub acted : s .suspended ≡ false → performStep s memory done flash .acted ≡ true → Answers Acted (performStep s memory done flash .flash)
+    pub acted : m .session .suspended ≡ false → performStep m done .acted ≡ true → Answers Acted (performStep m done .flash)
     unfolding advanced
-    acted u v = (rw (t, u), rw (t, u, v), rw (t, u))
+    acted u v = rw (t, u, v)
 
-    pub finished : s .suspended ≡ false → performStep s memory done flash .acted ≡ false → Answers Finished (performStep s memory done flash .flash)
+    pub finished : m .session .suspended ≡ false → performStep m done .acted ≡ false → Answers Finished (performStep m done .flash)
     unfolding advanced
-    finished u v = (rw (t, u), rw (t, u, v), rw (t, u))
+    finished u v = rw (t, u, v)
 
-pub flushed-none : (s : Session) (memory flash : List ℕ) → sound (length flash) (length memory) s ≡ false
-    → (0 ≡ flushWhole s memory flash .actions) × (flash ≡ flushWhole s memory flash .flash)
+pub flushed-none : (m : Machine) → sound (length (m .flash)) (length (m .memory)) (m .session) ≡ false
+    → record { actions = 0; flash = m .flash } ≡ flushWhole m
 unfolding flushWhole
-flushed-none s memory flash t = (rw t, rw t)
+flushed-none m t = rw t
 
-pub flushed-all : (s : Session) (memory flash : List ℕ) → sound (length flash) (length memory) s ≡ true
-    → (length (windowActions s) ≡ flushWhole s memory flash .actions) × (performIn s memory (windowActions s) flash ≡ flushWhole s memory flash .flash)
+pub flushed-all : (m : Machine) → sound (length (m .flash)) (length (m .memory)) (m .session) ≡ true
+    → record { actions = length (windowActions (m .session)); flash = performIn (m .session) (m .memory) (windowActions (m .session)) (m .flash) } ≡ flushWhole m
 unfolding flushWhole
-flushed-all s memory flash t = (rw t, rw t)
+flushed-all m t = rw t

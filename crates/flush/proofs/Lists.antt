@@ -1,20 +1,22 @@
 -- Laws of the lists of actions: how they grow, how many they are, and which comes after the first so many.
 use mathlib.Core.Path.{_≡_, refl, sym, ap, _∙_}
-use mathlib.Core.Bool.{true, false, cond}
+use mathlib.Core.Bool.{Bool, true, false, cond, _||_, true≢false}
 use mathlib.Core.List.{List, [], _∷_, _++_, append-assoc, append-nil}
 use mathlib.Core.Logic.{⊎-elim}
 use Prim.Native.Nat.{ℕ, zero, suc, _+_, _-_, _*_, _≤_, _<_}
 use native.Mathlib.Nat.{not-suc-le-zero, le-of-suc-le-suc}
 use native.Mathlib.Numerals.{add-one}
 use native.Mathlib.Omega.{arith}
-use lib.Dec.{eqb}
+use lib.Dec.{leb, eqb}
 use lib.ListN.{length, getD, take, drop, length-append, length-drop}
 use lib.Seq.{take-suc, take-append-le, drop-append-le, drop-append-add, split-at, length-take-le}
-use borrow.Author.Tests.{eq-eqb, ne-eqb, eqb-true}
-use Rattle.units.proofs.Cases.{decided}
-use Rattle.flush.specs.Actions.{Action, erase, program, marksOf, pagesFrom, blockActions, actionsFrom, flushActions, perform, performAll}
+use borrow.Author.Tests.{ne-eqb, eqb-true, leb-true}
+use Rattle.units.proofs.Cases.{decided, chosen, both}
+use Rattle.session.specs.Soundness.{marksSound}
+use Rattle.session.specs.Marks.{erases, programs, isMarked, marksOf}
+use Rattle.flush.specs.Actions.{Action, erase, program, pagesFrom, blockActions, actionsFrom, flushActions, perform, performAll}
 use Rattle.chip.specs.Actions.{eraseBlock, programPage}
-use Rattle.flush.specs.Locate.{nthOf}
+use Rattle.flush.specs.Locate.{nthOf, startOf}
 
 -- ---- performing
 pub perform-none : (memory flash : List ℕ) → performAll memory [] flash ≡ flash
@@ -30,6 +32,10 @@ pub perform-append : (memory : List ℕ) (xs ys : List Action) (flash : List ℕ
 unfolding performAll
 perform-append memory [] ys flash = refl
 perform-append memory (x ∷ xs) ys flash = perform-append memory xs ys (perform memory x flash)
+
+pub erase-is : (memory : List ℕ) (b : ℕ) (flash : List ℕ) → performAll memory (erase b ∷ []) flash ≡ eraseBlock b flash
+unfolding performAll perform
+erase-is memory b flash = refl
 
 -- ---- the pages of a block
 pub pages-length : (b p n : ℕ) → length (pagesFrom b p n) ≡ n
@@ -51,49 +57,70 @@ pages-at b p (suc n) zero h = ap (λ (q : ℕ). program b q ∷ []) (omega arith
 pages-at b p (suc n) (suc j) h =
     pages-at b (suc p) n j (le-of-suc-le-suc h) ∙ ap (λ (q : ℕ). program b q ∷ []) (omega arith)
 
--- ---- the actions of a block
-pub block-dirty : (b mark : ℕ) → mark ≡ 1 → blockActions b mark ≡ erase b ∷ pagesFrom b 0 16
+-- ---- the actions of a block, by what its mark asks
+pub by-asked : (P : List Action → Type 0) (b mark : ℕ)
+    → (erases mark ≡ true → programs mark ≡ true → P (erase b ∷ pagesFrom b 0 16))
+    → (erases mark ≡ true → programs mark ≡ false → P (erase b ∷ []))
+    → (erases mark ≡ false → programs mark ≡ true → P (pagesFrom b 0 16))
+    → (erases mark ≡ false → programs mark ≡ false → P [])
+    → P (blockActions b mark)
 unfolding blockActions
-block-dirty b mark e = rw (eq-eqb mark 1 e)
+by-asked P b mark whole erased programmed none =
+    chosen (λ xs. P (xs ++ cond (programs mark) (pagesFrom b 0 16) [])) (erases mark) (erase b ∷ []) []
+    (λ e. chosen (λ xs. P ((erase b ∷ []) ++ xs)) (programs mark) (pagesFrom b 0 16) [] (whole e) (erased e))
+    (λ e. chosen P (programs mark) (pagesFrom b 0 16) [] (programmed e) (none e))
 
-pub block-erased : (b mark : ℕ) → mark ≡ 2 → blockActions b mark ≡ erase b ∷ []
-unfolding blockActions
-block-erased b mark e =
-    let other : eqb mark 1 ≡ false = ne-eqb mark 1 (λ q. omega arith) in
-    let here : eqb mark 2 ≡ true = eq-eqb mark 2 e in
-    rw (other, here)
+-- a mark that asks for neither has none
+neither : (p q : Bool) → (p || q) ≡ false → (p ≡ false) × (q ≡ false)
+neither true q e = (e, absurd (true≢false e))
+neither false q e = (refl, e)
 
-pub block-clean : (b mark : ℕ) → (mark ≡ 1 → ⊥) → (mark ≡ 2 → ⊥) → blockActions b mark ≡ []
+pub unmarked-none : (b mark : ℕ) → isMarked mark ≡ false → blockActions b mark ≡ []
 unfolding blockActions
-block-clean b mark d e = rw (ne-eqb mark 1 d, ne-eqb mark 2 e)
+unmarked-none b mark m =
+    let n = neither (erases mark) (programs mark) m in
+    ap (λ (t : Bool). cond t (erase b ∷ []) [] ++ cond (programs mark) (pagesFrom b 0 16) []) (n .0)
+    ∙ ap (λ (t : Bool). cond t (pagesFrom b 0 16) []) (n .1)
 
--- a block's actions by its mark
-pub by-mark : (P : List Action → Type 0) (b mark : ℕ)
-    → (mark ≡ 1 → P (erase b ∷ pagesFrom b 0 16)) → (mark ≡ 2 → P (erase b ∷ []))
-    → (eqb mark 1 ≡ false → eqb mark 2 ≡ false → P []) → P (blockActions b mark)
+-- so 0 has none
+pub clear-none : (b mark : ℕ) → mark ≤ 0 → blockActions b mark ≡ []
+clear-none b mark h = let z : mark ≡ 0 = omega arith in unmarked-none b mark (ap isMarked z)
+
+-- the erase, and then the pages
+pub block-is : (memory : List ℕ) (b mark : ℕ) (flash : List ℕ)
+    → performAll memory (cond (programs mark) (pagesFrom b 0 16) []) (cond (erases mark) (eraseBlock b flash) flash)
+    ≡ performAll memory (blockActions b mark) flash
 unfolding blockActions
-by-mark P b mark d e n =
-    ⊎-elim
-    (λ (t : eqb mark 1 ≡ true). rw t (d (eqb-true mark 1 t)))
-    (λ (t : eqb mark 1 ≡ false).
-    ⊎-elim
-    (λ (u : eqb mark 2 ≡ true). rw (t, u) (e (eqb-true mark 2 u)))
-    (λ (u : eqb mark 2 ≡ false). rw (t, u) (n t u))
-    (decided (eqb mark 2)))
-    (decided (eqb mark 1))
+block-is memory b mark flash =
+    ap (performAll memory (cond (programs mark) (pagesFrom b 0 16) [])) erased
+    ∙ sym (perform-append memory (cond (erases mark) (erase b ∷ []) []) (cond (programs mark) (pagesFrom b 0 16) []) flash)
+  where
+    erased : cond (erases mark) (eraseBlock b flash) flash ≡ performAll memory (cond (erases mark) (erase b ∷ []) []) flash
+    erased =
+        ⊎-elim
+        (λ (t : erases mark ≡ true). rw t (sym (erase-is memory b flash)))
+        (λ (t : erases mark ≡ false). rw t (sym (perform-none memory flash)))
+        (decided (erases mark))
 
 -- "17 for each dirty block plus 1 for each erased one"
 pub countOf : ℕ → ℕ
-countOf mark = cond (eqb mark 1) 17 (cond (eqb mark 2) 1 0)
+countOf mark = cond (erases mark) 1 0 + cond (programs mark) 16 0
+
+-- the number of some actions, or of others
+either-length : (t : Bool) (xs ys : List Action) → length (cond t xs ys) ≡ cond t (length xs) (length ys)
+either-length true xs ys = refl
+either-length false xs ys = refl
 
 pub block-count : (b mark : ℕ) → length (blockActions b mark) ≡ countOf mark
 unfolding blockActions countOf
 block-count b mark =
-    ⊎-elim
-    (λ (t : eqb mark 1 ≡ true). rw t)
-    (λ (t : eqb mark 1 ≡ false).
-    ⊎-elim (λ (u : eqb mark 2 ≡ true). rw (t, u)) (λ (u : eqb mark 2 ≡ false). rw (t, u)) (decided (eqb mark 2)))
-    (decided (eqb mark 1))
+    length-append (cond (erases mark) (erase b ∷ []) []) (cond (programs mark) (pagesFrom b 0 16) [])
+    ∙ ap (λ (n : ℕ). n + length (cond (programs mark) (pagesFrom b 0 16) [])) (either-length (erases mark) (erase b ∷ []) [])
+    ∙ ap (λ (n : ℕ). cond (erases mark) 1 0 + n) (either-length (programs mark) (pagesFrom b 0 16) [])
+
+pub block-sum : (b mark : ℕ) → cond (erases mark) 1 0 + cond (programs mark) 16 0 ≡ length (blockActions b mark)
+unfolding countOf
+block-sum b mark = sym (block-count b mark)
 
 dirty-nth : (b k : ℕ) → k < 17 → take 1 (drop k (erase b ∷ pagesFrom b 0 16)) ≡ nthOf b k ∷ []
 dirty-nth b zero h = refl
@@ -103,10 +130,29 @@ erased-nth : (b k : ℕ) → k < 1 → take 1 (drop k (erase b ∷ [])) ≡ nthO
 erased-nth b zero h = refl
 erased-nth b (suc k) h = absurd (omega arith)
 
-pub block-nth : (b mark k : ℕ) → k < length (blockActions b mark) → take 1 (drop k (blockActions b mark)) ≡ nthOf b k ∷ []
+pub start-most : (mark : ℕ) → startOf mark ≤ 1
+start-most mark = chosen (λ n. n ≤ 1) (erases mark) 0 1 (λ _. omega arith) (λ _. omega arith)
+
+-- counted from the action that the mark begins with
+from-start : {t : Bool} (mark k : ℕ) → erases mark ≡ t → startOf mark + k ≡ cond t 0 1 + k
+from-start mark k e = ap (λ (s : Bool). cond s 0 1 + k) e
+
+pub block-nth : (b mark k : ℕ) → k < length (blockActions b mark) → take 1 (drop k (blockActions b mark)) ≡ nthOf b (startOf mark + k) ∷ []
 block-nth b mark k =
-    by-mark (λ xs. k < length xs → take 1 (drop k xs) ≡ nthOf b k ∷ []) b mark
-    (λ e h. dirty-nth b k h) (λ e h. erased-nth b k h) (λ t u h. absurd (not-suc-le-zero h))
+    by-asked (λ xs. k < length xs → take 1 (drop k xs) ≡ nthOf b (startOf mark + k) ∷ []) b mark
+    (λ e p h. dirty-nth b k h ∙ there (sym (from-start mark k e ∙ front)))
+    (λ e p h. erased-nth b k h ∙ there (sym (from-start mark k e ∙ front)))
+    (λ e p h. pages-at b 0 16 k h ∙ ap (λ (q : ℕ). program b q ∷ []) front ∙ there (sym (from-start mark k e ∙ behind)))
+    (λ e p h. absurd (not-suc-le-zero h))
+  where
+    there : {m n : ℕ} → m ≡ n → _≡_ {A = List Action} (nthOf b m ∷ []) (nthOf b n ∷ [])
+    there q = ap (λ (n : ℕ). nthOf b n ∷ []) q
+
+    front : 0 + k ≡ k
+    front = omega arith
+
+    behind : 1 + k ≡ suc k
+    behind = omega arith
 
 -- ---- the actions of several marks
 -- "17 for each dirty block plus 1 for each erased one"
@@ -142,25 +188,40 @@ pub flush-count : (marks : List ℕ) → length (flushActions marks) ≡ 17 * ma
 unfolding flushActions
 flush-count marks = actions-count 0 marks
 
--- "at most 1,088"
-marks-most : (marks : List ℕ) → 17 * marksOf 1 marks + marksOf 2 marks ≤ 17 * length marks
-marks-most [] = omega arith
-marks-most (m ∷ ms) =
+pub count-most : (mark : ℕ) → countOf mark ≤ 17
+unfolding countOf
+count-most mark =
     ⊎-elim
-    (λ (t : eqb m 1 ≡ true).
-    let u : eqb m 2 ≡ false = ne-eqb m 2 (λ q. two (eqb-true m 1 t) q) in rw (t, u) (omega (arith, marks-most ms)))
-    (λ (t : eqb m 1 ≡ false).
-    ⊎-elim
-    (λ (u : eqb m 2 ≡ true). rw (t, u) (omega (arith, marks-most ms)))
-    (λ (u : eqb m 2 ≡ false). rw (t, u) (omega (arith, marks-most ms)))
-    (decided (eqb m 2)))
-    (decided (eqb m 1))
-  where
-    two : m ≡ 1 → m ≡ 2 → ⊥
-    two p q = omega arith
+    (λ (t : eqb mark 1 ≡ true). rw t (omega arith))
+    (λ (t : eqb mark 1 ≡ false).
+    ⊎-elim (λ (u : eqb mark 2 ≡ true). rw (t, u) (omega arith)) (λ (u : eqb mark 2 ≡ false). rw (t, u) (omega arith)) (decided (eqb mark 2)))
+    (decided (eqb mark 1))
 
-pub flush-most : (marks : List ℕ) → length marks ≡ 64 → length (flushActions marks) ≤ 1088
-flush-most marks long = omega (arith, flush-count marks, marks-most marks)
+-- "at most 1,088": 17 for each block of a window of up to 64
+-- marks that are all 0 have none
+none-marked : (b : ℕ) (ms : List ℕ) → marksSound zero ms ≡ true → actionsFrom b ms ≡ []
+unfolding actionsFrom
+none-marked b [] e = refl
+none-marked b (m ∷ ms) e =
+    let p = both (leb m 0) (marksSound zero ms) e in
+    let z : m ≤ 0 = leb-true m 0 (p .0) in
+    ap (λ (xs : List Action). xs ++ actionsFrom (suc b) ms) (clear-none b m z) ∙ none-marked (suc b) ms (p .1)
+
+-- marks that are 0 from block n on have at most 17 for each block before it
+actions-few : (n b : ℕ) (ms : List ℕ) → marksSound n ms ≡ true → length (actionsFrom b ms) ≤ 17 * n
+unfolding actionsFrom
+actions-few n b [] e = omega arith
+actions-few zero b (m ∷ ms) e = omega (arith, ap length (none-marked b (m ∷ ms) e))
+actions-few (suc n) b (m ∷ ms) e =
+    rw (length-append, block-count b m) (omega (arith, count-most m, actions-few n (suc b) ms (both (leb m 2) (marksSound n ms) e .1)))
+
+pub flush-unmarked : (ms : List ℕ) → marksSound zero ms ≡ true → flushActions ms ≡ []
+unfolding flushActions
+flush-unmarked ms e = none-marked 0 ms e
+
+pub flush-few : (n : ℕ) (ms : List ℕ) → marksSound n ms ≡ true → length (flushActions ms) ≤ 17 * n
+unfolding flushActions
+flush-few n ms e = actions-few n 0 ms e
 
 module _ (marks : List ℕ) (i : ℕ) (h : i < length marks) where
   -- those of the blocks before i, of block i, and of the blocks after it
@@ -197,7 +258,7 @@ module _ (marks : List ℕ) (i : ℕ) (h : i < length marks) where
   -- the action at a place within block i
   pub nth-of : (left : ℕ) → left < countOf (getD marks i 0)
       → (left + length (flushActions (take i marks)) < length (flushActions marks))
-      × (take 1 (drop (left + length (flushActions (take i marks))) (flushActions marks)) ≡ nthOf i left ∷ [])
+      × (take 1 (drop (left + length (flushActions (take i marks))) (flushActions marks)) ≡ nthOf i (startOf (getD marks i 0) + left) ∷ [])
   nth-of left k = (within, found)
     where
       A : List Action
@@ -224,7 +285,7 @@ module _ (marks : List ℕ) (i : ℕ) (h : i < length marks) where
       there : 1 ≤ length (drop left B)
       there = rw length-drop (omega (arith, few))
 
-      found : take 1 (drop (left + length A) (flushActions marks)) ≡ nthOf i left ∷ []
+      found : take 1 (drop (left + length A) (flushActions marks)) ≡ nthOf i (startOf (getD marks i 0) + left) ∷ []
       found =
           ap (λ (xs : List Action). take 1 (drop (left + length A) xs)) actions-split
           ∙ ap (λ (n : ℕ). take 1 (drop n (A ++ (B ++ R)))) order
@@ -248,15 +309,6 @@ pub flush-none : flushActions [] ≡ []
 unfolding flushActions actionsFrom
 flush-none = refl
 
-pub count-most : (mark : ℕ) → countOf mark ≤ 17
-unfolding countOf
-count-most mark =
-    ⊎-elim
-    (λ (t : eqb mark 1 ≡ true). rw t (omega arith))
-    (λ (t : eqb mark 1 ≡ false).
-    ⊎-elim (λ (u : eqb mark 2 ≡ true). rw (t, u) (omega arith)) (λ (u : eqb mark 2 ≡ false). rw (t, u) (omega arith)) (decided (eqb mark 2)))
-    (decided (eqb mark 1))
-
 -- the marks of one block more are flushed
 pub flushed-more : (memory flash : List ℕ) (marks : List ℕ) (i : ℕ) → i < length marks
     → performAll memory (blockActions i (getD marks i 0)) (performAll memory (flushActions (take i marks)) flash)
@@ -266,16 +318,6 @@ flushed-more memory flash marks i h =
     (ap (λ (xs : List Action). performAll memory xs flash) (actions-more marks i h)
     ∙ perform-append memory (flushActions (take i marks)) (blockActions i (getD marks i 0)) flash)
 
-pub erase-is : (memory : List ℕ) (b : ℕ) (flash : List ℕ) → performAll memory (erase b ∷ []) flash ≡ eraseBlock b flash
-unfolding performAll perform
-erase-is memory b flash = refl
-
 pub program-is : (memory : List ℕ) (b p : ℕ) (flash : List ℕ) → perform memory (program b p) flash ≡ programPage b p memory flash
 unfolding perform
 program-is memory b p flash = refl
-
-pub dirty-is : (memory : List ℕ) (b : ℕ) (flash : List ℕ)
-    → performAll memory (erase b ∷ pagesFrom b 0 16) flash ≡ performAll memory (pagesFrom b 0 16) (eraseBlock b flash)
-dirty-is memory b flash =
-    perform-append memory (erase b ∷ []) (pagesFrom b 0 16) flash
-    ∙ ap (performAll memory (pagesFrom b 0 16)) (erase-is memory b flash)

@@ -11,6 +11,7 @@ use Rattle.units.specs.Units.{toBytes}
 use Rattle.buffers.specs.Ranges.{range, replace}
 use Rattle.buffers.proofs.Replace.{range-length, range-replace, replace-same, replace-again, replace-length, replace-before, replace-after}
 use Rattle.session.specs.declared.Session.{Session}
+use Rattle.session.specs.Marks.{programs}
 use Rattle.session.specs.Soundness.{marksSound}
 use Rattle.flush.specs.Actions.{Action, performAll}
 use Rattle.flush.specs.Window.{windowActions, windowPart, partEnd, performIn}
@@ -88,7 +89,7 @@ module _ (s : Session) (flash : List ℕ) (fits : partEnd s ≤ length flash) wh
 
     -- a flush of the same marks, run to its end after the first j actions of one, from a window that agrees in the dirty blocks
     pub after-cut : marksSound (s .size) (s .marks) ≡ true → (memory₂ : List ℕ) → toBytes (s .size) ≤ length memory₂
-        → ((x : ℕ) → getD (s .marks) (x / 4096) 0 ≡ 1 → getD memory₂ x 0 ≡ getD memory x 0) → (j : ℕ)
+        → ((x : ℕ) → programs (getD (s .marks) (x / 4096) 0) ≡ true → getD memory₂ x 0 ≡ getD memory x 0) → (j : ℕ)
         → performIn s memory₂ (windowActions s) (performIn s memory (take j (windowActions s)) flash) ≡ performIn s memory (windowActions s) flash
     after-cut sound memory₂ room₂ agree j =
         in-is s memory₂ (windowActions s) (performIn s memory first flash)

@@ -1,8 +1,8 @@
 -- The chip actions of a flush: document 01, "Chip actions". Blocks are counted within the window.
-use Prim.Native.Nat.{ℕ, zero, suc, _+_}
+use Prim.Native.Nat.{ℕ, zero, suc}
 use mathlib.Core.Bool.{cond}
 use mathlib.Core.List.{List, [], _∷_, _++_}
-use lib.Dec.{eqb}
+use Rattle.session.specs.Marks.{erases, programs}
 use Rattle.chip.specs.Actions.{blockPages, eraseBlock, programPage}
 
 -- the erase of a block, and the programming of a page of a block
@@ -10,26 +10,14 @@ pub data Action : Type 0 where
   erase : ℕ → Action
   program : ℕ → ℕ → Action
 
--- marks: "0 clean, 1 dirty, 2 erased"
-abbrev pub dirty : ℕ
-dirty = 1
-
-abbrev pub erasedMark : ℕ
-erasedMark = 2
-
--- how many of the marks are this one
-abbrev pub marksOf : ℕ → List ℕ → ℕ
-marksOf mark [] = 0
-marksOf mark (m ∷ ms) = cond (eqb m mark) 1 0 + marksOf mark ms
-
 -- so many pages of block b in rising order, from page p on
 abbrev pub pagesFrom : ℕ → ℕ → ℕ → List Action
 pagesFrom b p zero = []
 pagesFrom b p (suc n) = program b p ∷ pagesFrom b (suc p) n
 
--- "A dirty block needs one erase and then 16 page actions in rising order; an erased block needs the erase only"
+-- "A dirty block needs one erase and then 16 page actions in rising order; an erased block needs the erase only": what its mark asks
 unfoldable pub blockActions : ℕ → ℕ → List Action
-blockActions b mark = cond (eqb mark dirty) (erase b ∷ pagesFrom b 0 blockPages) (cond (eqb mark erasedMark) (erase b ∷ []) [])
+blockActions b mark = cond (erases mark) (erase b ∷ []) [] ++ cond (programs mark) (pagesFrom b 0 blockPages) []
 
 -- "A flush takes the marked window blocks in rising order": the actions of these marks, the first of which is block b's
 unfoldable pub actionsFrom : ℕ → List ℕ → List Action

@@ -7,6 +7,7 @@ use lib.ListN.{length, take, drop}
 use Rattle.buffers.specs.Ranges.{range, replace}
 use Rattle.units.specs.Units.{toBytes}
 use Rattle.session.specs.declared.Session.{Session}
+use Rattle.session.specs.Machine.{Machine}
 use Rattle.session.specs.Soundness.{sound}
 use Rattle.flush.specs.declared.window.Step.{Step}
 use Rattle.flush.specs.declared.window.Step.the-variants.{Unsound, Suspended, Acted, Finished}
@@ -33,11 +34,11 @@ pub record Performed : Type 0 where
   pub flash : List ℕ
 
 -- the action after the first so many, if there is one
-abbrev pub performStep : Session → List ℕ → ℕ → List ℕ → Performed
-performStep s memory done flash =
+abbrev pub performStep : Machine → ℕ → Performed
+performStep m done =
     record {
-      acted = ltb done (length (windowActions s));
-      flash = performIn s memory (take 1 (drop done (windowActions s))) flash;
+      acted = ltb done (length (windowActions (m .session)));
+      flash = performIn (m .session) (m .memory) (take 1 (drop done (windowActions (m .session)))) (m .flash);
     }
 
 -- "It answers 4 .., then 6 when suspended, and changes nothing; otherwise 1": the number of each answer
@@ -47,7 +48,7 @@ stepCode Suspended = 6
 stepCode Acted = 1
 stepCode Finished = 1
 
--- "with yes if it did an action and no past the end"
+-- "with yes if it did an action and no past the end"; a step that is refused did none
 abbrev pub stepYes : Step → Bool
 stepYes Unsound = false
 stepYes Suspended = false
@@ -60,27 +61,31 @@ pub record Advanced : Type 0 where
   pub yes : Bool
   pub flash : List ℕ
 
--- the flush advanced by one action, "from the session, both buffers and the number of actions already done"; B is not given
-unfoldable pub advanced : Session → List ℕ → ℕ → List ℕ → Advanced
-advanced s memory done flash =
-    cond (sound (length flash) (length memory) s)
-    (cond (s .suspended)
-    (record { code = 6; yes = false; flash = flash })
-    (record {
-      code = 1;
-      yes = performStep s memory done flash .acted;
-      flash = performStep s memory done flash .flash;
-    }))
-    (record { code = 4; yes = false; flash = flash })
+-- as the code has them
+abbrev pub stepped : Step → List ℕ → Advanced
+stepped step flash = record { code = stepCode step; yes = stepYes step; flash = flash }
+
+-- the flush advanced by one action, "from the session, both buffers and the number of actions already done": B is not among these, so of "what
+-- the table calls SYSTEM_ERROR" the sizes and the session are looked at
+unfoldable pub advanced : Machine → ℕ → Advanced
+advanced m done =
+    cond (sound (length (m .flash)) (length (m .memory)) (m .session))
+    (cond (m .session .suspended)
+    (record { code = 6; yes = false; flash = m .flash })
+    (record { code = 1; yes = performStep m done .acted; flash = performStep m done .flash }))
+    (record { code = 4; yes = false; flash = m .flash })
 
 -- the number of actions, and the flash after them
 pub record Flushed : Type 0 where
   pub actions : ℕ
   pub flash : List ℕ
 
--- all actions of a sound session's window; of any other none
-unfoldable pub flushWhole : Session → List ℕ → List ℕ → Flushed
-flushWhole s memory flash =
-    cond (sound (length flash) (length memory) s)
-    (record { actions = length (windowActions s); flash = performIn s memory (windowActions s) flash })
-    (record { actions = 0; flash = flash })
+-- all actions of a sound session's window, suspended or not; of any other none (house: a command that flushes has passed the table)
+unfoldable pub flushWhole : Machine → Flushed
+flushWhole m =
+    cond (sound (length (m .flash)) (length (m .memory)) (m .session))
+    (record {
+      actions = length (windowActions (m .session));
+      flash = performIn (m .session) (m .memory) (windowActions (m .session)) (m .flash);
+    })
+    (record { actions = 0; flash = m .flash })

@@ -6,8 +6,6 @@
 mod marked;
 mod window;
 
-pub use marked::DIRTY;
-pub use marked::ERASED;
 pub use window::Step;
 pub use window::advance;
 pub use window::flush_window;

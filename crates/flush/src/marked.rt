@@ -1,24 +1,19 @@
 // The flush of 64 marks, over the window's own part of the flash.
 use chip::erase_block;
 use chip::program_page;
+use session::mark_erases;
+use session::mark_programs;
 use units::Blocks;
 ghost use mathlib.Core.Path.{_≡_};
+ghost use mathlib.Core.Bool.{cond};
 ghost use mathlib.Core.List.{_∷_, []};
 ghost use Prim.Native.Nat.{_≤_, _<_};
 ghost use lib.Dec.{ltb};
 ghost use lib.ListN.{length, take, drop};
+ghost use Rattle.chip.specs.Actions.{eraseBlock};
+ghost use Rattle.session.specs.Marks.{erases, programs};
 ghost use Rattle.flush.specs.Actions.{pagesFrom, blockActions, flushActions, performAll};
-ghost use Rattle.flush.specs.Locate.{Located, nthOf};
-
-// The marks that ask for actions.
-pub const DIRTY: u8 = 1;
-
-pub const ERASED: u8 = 2;
-
-// How many actions each asks for.
-const DIRTY_ACTIONS: u32 = 17;
-
-const ERASED_ACTIONS: u32 = 1;
+ghost use Rattle.flush.specs.Locate.{Located, nthOf, startOf};
 
 // The pages of a block.
 const PAGES: u32 = 16;
@@ -64,16 +59,29 @@ fn flush_block(part: &mut [u8], memory: &[u8], block: Blocks, mark: u8) -> u32
     ensures { λ r. ⌜ (r ≡ length (blockActions (block .0) mark))
         × (now (part .exit) ≡ performAll (now (memory .entry)) (blockActions (block .0) mark) (now (part .entry))) ⌝ }
 {
-    if mark == DIRTY {
-        erase_block(part, block);
-        program_block(part, memory, block);
-        return DIRTY_ACTIONS;
+    erase_marked(part, block, mark);
+    program_marked(part, memory, block, mark);
+    actions_of(mark)
+}
+
+// The erase of a block, if its mark asks for it.
+fn erase_marked(part: &mut [u8], block: Blocks, mark: u8)
+    ensures { λ _. ⌜ now (part .exit) ≡ cond (erases mark) (eraseBlock (block .0) (now (part .entry))) (now (part .entry)) ⌝ }
+{
+    if !mark_erases(mark) {
+        return;
     }
-    if mark == ERASED {
-        erase_block(part, block);
-        return ERASED_ACTIONS;
+    erase_block(part, block);
+}
+
+// The page actions of a block, if its mark asks for them.
+fn program_marked(part: &mut [u8], memory: &[u8], block: Blocks, mark: u8)
+    ensures { λ _. ⌜ now (part .exit) ≡ performAll (now (memory .entry)) (cond (programs mark) (pagesFrom (block .0) 0 16) []) (now (part .entry)) ⌝ }
+{
+    if !mark_programs(mark) {
+        return;
     }
-    0
+    program_block(part, memory, block);
 }
 
 // The page actions of a block, in rising order.
@@ -102,13 +110,16 @@ fn act(part: &mut [u8], memory: &[u8], block: Blocks, nth: u32)
 fn actions_of(mark: u8) -> u32
     ensures { λ r. ⌜ r ≡ length (blockActions 0 mark) ⌝ }
 {
-    if mark == DIRTY {
-        return DIRTY_ACTIONS;
-    }
-    if mark == ERASED {
-        return ERASED_ACTIONS;
-    }
-    0
+    let erase: u32 = if mark_erases(mark) { 1 } else { 0 };
+    let pages: u32 = if mark_programs(mark) { PAGES } else { 0 };
+    erase + pages
+}
+
+// Which of a block's actions a mark begins with: the erase, or the first page.
+fn first_action(mark: u8) -> u32
+    ensures { λ r. ⌜ r ≡ startOf mark ⌝ }
+{
+    if mark_erases(mark) { 0 } else { 1 }
 }
 
 // The place of the action after the first so many.
@@ -123,7 +134,7 @@ fn locate(marks: [u8; 64], done: u64) -> Place
         if left < count as u64 {
             return Place::At {
                 block: i,
-                nth: left as u32,
+                nth: first_action(marks[at]) + left as u32,
             };
         }
         left -= count as u64;

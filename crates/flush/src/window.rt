@@ -7,7 +7,8 @@ use units::Blocks;
 ghost use mathlib.Core.Path.{_≡_};
 ghost use Prim.Native.Nat.{_≤_};
 ghost use lib.ListN.{length};
-ghost use Rattle.flush.specs.Window.{windowActions, partEnd, performIn, performStep, stepCode, stepYes, advanced, flushWhole};
+ghost use Rattle.session.specs.Machine.{lent};
+ghost use Rattle.flush.specs.Window.{windowActions, partEnd, performIn, performStep, stepped, advanced, flushWhole};
 
 // What advancing a flush by one action came to.
 pub enum Step {
@@ -23,9 +24,7 @@ pub enum Step {
 
 // Advances the flush by one action, from the number of actions already done. Only the flash changes.
 pub fn advance(session: Session, flash: &mut [u8], memory: &[u8], done: u64) -> Step
-    ensures { λ r. ⌜ (stepCode r ≡ advanced session (now (memory .entry)) done (now (flash .entry)) .code)
-        × (stepYes r ≡ advanced session (now (memory .entry)) done (now (flash .entry)) .yes)
-        × (now (flash .exit) ≡ advanced session (now (memory .entry)) done (now (flash .entry)) .flash) ⌝ }
+    ensures { λ r. ⌜ stepped r (now (flash .exit)) ≡ advanced (lent session (now (flash .entry)) (now (memory .entry))) done ⌝ }
 {
     if !is_sound(session, flash.len(), memory.len()) {
         return Step::Unsound;
@@ -42,8 +41,7 @@ pub fn advance(session: Session, flash: &mut [u8], memory: &[u8], done: u64) -> 
 
 // Does all actions of a sound session's window, suspended or not, and answers their number.
 pub fn flush_window(session: Session, flash: &mut [u8], memory: &[u8]) -> u32
-    ensures { λ r. ⌜ (r ≡ flushWhole session (now (memory .entry)) (now (flash .entry)) .actions)
-        × (now (flash .exit) ≡ flushWhole session (now (memory .entry)) (now (flash .entry)) .flash) ⌝ }
+    ensures { λ r. ⌜ record { actions = r; flash = now (flash .exit) } ≡ flushWhole (lent session (now (flash .entry)) (now (memory .entry))) ⌝ }
 {
     if !is_sound(session, flash.len(), memory.len()) {
         return 0;
@@ -66,8 +64,7 @@ fn flush_part(session: Session, flash: &mut [u8], memory: &[u8]) -> u32
 // One action of a window that lies in the flash.
 fn step_part(session: Session, flash: &mut [u8], memory: &[u8], done: u64) -> bool
     requires { ⌜ partEnd session ≤ length (now flash) ⌝ }
-    ensures { λ r. ⌜ (r ≡ performStep session (now (memory .entry)) done (now (flash .entry)) .acted)
-        × (now (flash .exit) ≡ performStep session (now (memory .entry)) done (now (flash .entry)) .flash) ⌝ }
+    ensures { λ r. ⌜ record { acted = r; flash = now (flash .exit) } ≡ performStep (lent session (now (flash .entry)) (now (memory .entry))) done ⌝ }
 {
     let start = Blocks(session.first as u32).bytes().0 as usize;
     let end = start + Blocks(session.size as u32).bytes().0 as usize;

@@ -16,7 +16,7 @@ unfoldable pub groups : ℕ → ℕ → List ℕ
 groups zero n = n ∷ []
 groups (suc most) n = let more = (n % 128 + 128) ∷ groups most (n / 128) in cond (ltb n 128) (n ∷ []) more
 
--- the number's bytes: no more groups follow the first than the number counts, so the bound is never met
+-- the number's bytes: no more groups follow the first than the number counts, so the bound cuts nothing off
 unfoldable pub encode : ℕ → List ℕ
 encode n = groups n n
 

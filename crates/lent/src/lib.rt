@@ -2,9 +2,10 @@
 //
 // The entry takes the record apart, calls the proved function over values and stores the session back.
 use mailbox::command;
-use refusals::Board;
+use session::Board;
 use session::Session;
 ghost use mathlib.Core.Path.{_≡_};
+ghost use Rattle.session.specs.Machine.{setUp, lent};
 ghost use Rattle.mailbox.specs.Mediator.{mediate};
 
 // What a command gives back besides the session: the 16 registers and the number of chip actions.
@@ -21,11 +22,12 @@ pub fn serve(
     flash: &mut [u8],
     memory: &mut [u8],
 ) -> Reply
-    ensures { λ r. ⌜ (now (session .exit) ≡ mediate board (now (session .entry)) registers (now (flash .entry)) (now (memory .entry)) .answer .session)
-        × (r .registers ≡ mediate board (now (session .entry)) registers (now (flash .entry)) (now (memory .entry)) .answer .registers)
-        × (r .actions ≡ mediate board (now (session .entry)) registers (now (flash .entry)) (now (memory .entry)) .answer .actions)
-        × (now (flash .exit) ≡ mediate board (now (session .entry)) registers (now (flash .entry)) (now (memory .entry)) .flash)
-        × (now (memory .exit) ≡ mediate board (now (session .entry)) registers (now (flash .entry)) (now (memory .entry)) .memory) ⌝ }
+    ensures { λ r. ⌜ record {
+      machine = lent (now (session .exit)) (now (flash .exit)) (now (memory .exit));
+      registers = r .registers;
+      actions = r .actions;
+    }
+        ≡ mediate (setUp board) registers (lent (now (session .entry)) (now (flash .entry)) (now (memory .entry))) ⌝ }
 {
     let answer = command(*session, registers, board, flash, memory);
     *session = answer.session;

@@ -13,9 +13,8 @@ use Rattle.buffers.proofs.Each.{copy-whole}
 use Rattle.buffers.proofs.Replace.{part-back}
 use Rattle.units.specs.Units.{toBytes}
 use Rattle.units.proofs.Cases.{decided}
-use Rattle.session.specs.declared.Session.{Session}
 use Rattle.session.specs.declared.Window.{Window}
-use Rattle.refusals.specs.declared.Board.{Board}
+use Rattle.session.specs.Machine.{Setup, Machine}
 use Rattle.mailbox.specs.Commands.{sizeFor, opened}
 
 pub copied-front : (flash memory ys : List ℕ) (a n first size : ℕ) → a ≡ toBytes first → n ≡ toBytes size → a + n ≤ length flash → n ≤ length memory
@@ -43,7 +42,7 @@ size-fits S C o n h =
     (decided (eqb n 0))
 
 -- the outcome of a create goes by the window's place and size
-pub opened-as : (window : Window) (board : Board) (s : Session) (registers flash memory : List ℕ) {o o′ z z′ : ℕ} → o ≡ o′ → z ≡ z′
-    → opened window o z board s registers flash memory ≡ opened window o′ z′ board s registers flash memory
-opened-as window board s registers flash memory {o} {o′} {z} {z′} p q =
-    ap (λ (k : ℕ). opened window k z board s registers flash memory) p ∙ ap (λ (k : ℕ). opened window o′ k board s registers flash memory) q
+pub opened-as : (window : Window) (setup : Setup) (registers : List ℕ) (m : Machine) {o o′ z z′ : ℕ} → o ≡ o′ → z ≡ z′
+    → opened window o z setup registers m ≡ opened window o′ z′ setup registers m
+opened-as window setup registers m {o} {o′} {z} {z′} p q =
+    ap (λ (k : ℕ). opened window k z setup registers m) p ∙ ap (λ (k : ℕ). opened window o′ k setup registers m) q

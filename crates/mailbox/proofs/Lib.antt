@@ -1,3 +1,3 @@
-mod Fields
+mod Marking
 pub mod Front
 pub mod Mediating

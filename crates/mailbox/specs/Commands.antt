@@ -10,19 +10,28 @@ use Rattle.buffers.specs.Ranges.{range, replace}
 use Rattle.chip.specs.Actions.{erased}
 use Rattle.session.specs.declared.Session.{Session}
 use Rattle.session.specs.declared.Window.{Window}
-use Rattle.session.specs.Record.{clean, clearBits, dropWindow}
-use Rattle.flush.specs.Actions.{dirty, erasedMark}
+use Rattle.session.specs.declared.Previous.the-variants.{Number}
+use Rattle.session.specs.Machine.{Setup, Machine, lent, holding}
+use Rattle.session.specs.Marks.{dirty, erasedMark}
+use Rattle.session.specs.Record.{clean, clearBits, withVersion, withPrevious, withEvents, withMarks, withWindow, dropWindow}
 use Rattle.flush.specs.Window.{flushWhole}
-use Rattle.refusals.specs.declared.Board.{Board}
 use Rattle.mailbox.specs.declared.Answer.{Answer}
-use Rattle.refusals.specs.Registers.{argument, number, bytesOf, padded, reply}
+use Rattle.registers.specs.Registers.{sequenceOf, argument, number, bytesOf, padded, reply}
 use Rattle.refusals.specs.Refusals.{blocksNamed, flushMarks}
 
--- what a call leaves: the session, the registers and the number of chip actions, and both buffers
+-- what a call leaves: the session and both buffers, the registers and the number of chip actions
 pub record Outcome : Type 0 where
-  pub answer : Answer
-  pub flash : List ℕ
-  pub memory : List ℕ
+  pub machine : Machine
+  pub registers : List ℕ
+  pub actions : ℕ
+
+-- as the code has them
+abbrev pub outcome : Answer → List ℕ → List ℕ → Outcome
+outcome a flash memory = record { machine = lent (a .session) flash memory; registers = a .registers; actions = a .actions }
+
+-- an answer that leaves both buffers alone
+abbrev pub leaving : Answer → Machine → Outcome
+leaving a m = outcome a (m .flash) (m .memory)
 
 -- an answer: the session, a code, all 11 arguments and a number of chip actions
 abbrev pub answerWith : Session → List ℕ → ℕ → List ℕ → ℕ → Answer
@@ -33,59 +42,9 @@ answerWith s registers code arguments actions =
 abbrev pub answered : Session → List ℕ → ℕ → List ℕ → ℕ → Answer
 answered s registers code arguments actions = answerWith s registers code (padded arguments) actions
 
--- ---- the session with some of its fields changed
-abbrev pub withVersion : ℕ → Session → Session
-withVersion version s =
-    record {
-      version = version;
-      previous = s .previous;
-      events = s .events;
-      suspended = s .suspended;
-      window = s .window;
-      first = s .first;
-      size = s .size;
-      marks = s .marks;
-    }
-
-abbrev pub withEvents : ℕ → Session → Session
-withEvents events s =
-    record {
-      version = s .version;
-      previous = s .previous;
-      events = events;
-      suspended = s .suspended;
-      window = s .window;
-      first = s .first;
-      size = s .size;
-      marks = s .marks;
-    }
-
-abbrev pub withMarks : List ℕ → Session → Session
-withMarks marks s =
-    record {
-      version = s .version;
-      previous = s .previous;
-      events = s .events;
-      suspended = s .suspended;
-      window = s .window;
-      first = s .first;
-      size = s .size;
-      marks = marks;
-    }
-
--- a new window, with "all marks 0"
-abbrev pub withWindow : Window → ℕ → ℕ → Session → Session
-withWindow window first size s =
-    record {
-      version = s .version;
-      previous = s .previous;
-      events = s .events;
-      suspended = s .suspended;
-      window = window;
-      first = first;
-      size = size;
-      marks = clean;
-    }
+-- "Every other answered command makes its number the previous one"
+abbrev pub numbered : Session → List ℕ → Session
+numbered s registers = withPrevious (Number (sequenceOf registers)) s
 
 -- "The latest mark of a block counts": the blocks named by the arguments get this mark
 abbrev pub marked : ℕ → Session → List ℕ → Session
@@ -104,10 +63,10 @@ infoArguments version C T =
     (version ∷ (bytesOf 2 C ++ bytesOf 2 C))
     (version ∷ 0 ∷ 0 ∷ 0 ∷ 0 ∷ 12 ∷ bytesOf 2 T)
 
-abbrev pub infoAnswer : Board → Session → List ℕ → ℕ → Answer
-infoAnswer board s registers C =
+abbrev pub infoAnswer : Setup → Session → List ℕ → ℕ → Answer
+infoAnswer setup s registers C =
     answered (withVersion (min (argument 0 registers) 2) s) registers 1
-    (infoArguments (min (argument 0 registers) 2) C (board .timeout)) 0
+    (infoArguments (min (argument 0 registers) 2) C (setup .timeout)) 0
 
 -- ---- 3 GET_FLASH_INFO: "version 1: arguments 0-3 the flash size, 4-7 the granule, in bytes. Version 2: 0-1 S, 2-3 the number 1."
 abbrev pub flashInfoAnswer : Session → List ℕ → ℕ → Answer
@@ -125,66 +84,55 @@ sizeFor S C o n = cond (eqb n 0) (min C (S - o)) (min (min C (S - o)) n)
 
 -- "flushed if it is a write window", and dropped: what CLOSE_WINDOW leaves, and a create that is refused for its argument. Without a write
 -- window a sound session has no marks, so that nothing is flushed
-abbrev pub closing : ℕ → Session → List ℕ → List ℕ → List ℕ → Outcome
-closing code s registers flash memory =
-    record {
-      answer = answered (dropWindow s) registers code [] (flushWhole s memory flash .actions);
-      flash = flushWhole s memory flash .flash;
-      memory = memory;
-    }
+abbrev pub closing : ℕ → List ℕ → Machine → Outcome
+closing code registers m =
+    outcome (answered (dropWindow (m .session)) registers code [] (flushWhole m .actions)) (flushWhole m .flash) (m .memory)
 
 -- "Response: 0-1 B; version 2 also 2-3 size, 4-5 o"
 abbrev pub createArguments : ℕ → ℕ → ℕ → ℕ → List ℕ
 createArguments version B size o = cond (ltb version 2) (bytesOf 2 B) (bytesOf 2 B ++ (bytesOf 2 size ++ bytesOf 2 o))
 
 -- "The flash blocks are copied to the front of window memory; the rest of it is unchanged"
-abbrev pub opened : Window → ℕ → ℕ → Board → Session → List ℕ → List ℕ → List ℕ → Outcome
-opened window o size board s registers flash memory =
-    record {
-      answer =
-          answered (withWindow window o size s) registers 1 (createArguments (s .version) (board .lpc) size o)
-          (flushWhole s memory flash .actions);
-      flash = flushWhole s memory flash .flash;
-      memory = replace 0 (range (toBytes o) (toBytes size) (flushWhole s memory flash .flash)) memory;
-    }
+abbrev pub opened : Window → ℕ → ℕ → Setup → List ℕ → Machine → Outcome
+opened window o size setup registers m =
+    outcome
+    (answered (withWindow window o size (m .session)) registers 1 (createArguments (m .session .version) (setup .lpc) size o) (flushWhole m .actions))
+    (flushWhole m .flash)
+    (replace 0 (range (toBytes o) (toBytes size) (flushWhole m .flash)) (m .memory))
 
-abbrev pub created : Window → Board → Session → List ℕ → List ℕ → List ℕ → Outcome
-created window board s registers flash memory =
+abbrev pub created : Window → Setup → List ℕ → Machine → Outcome
+created window setup registers m =
     opened window (number 2 0 registers)
-    (sizeFor (roundUp (length flash)) (roundUp (length memory)) (number 2 0 registers) (hint s registers))
-    board s registers flash memory
+    (sizeFor (roundUp (length (m .flash))) (roundUp (length (m .memory))) (number 2 0 registers) (hint (m .session) registers))
+    setup registers m
 
 -- ---- 5 CLOSE_WINDOW: "flushes a write window, then drops it. Without a window: success, nothing done (house). The flags of version 2 have
 -- no effect."
-abbrev pub closed : Session → List ℕ → List ℕ → List ℕ → Outcome
-closed s registers flash memory = closing 1 s registers flash memory
+abbrev pub closed : List ℕ → Machine → Outcome
+closed registers m = closing 1 registers m
 
 -- ---- 7 MARK_DIRTY
 abbrev pub dirtyAnswer : Session → List ℕ → Answer
 dirtyAnswer s registers = answered (marked dirty s registers) registers 1 [] 0
 
 -- ---- 8 FLUSH: "All marks are 0 afterwards; the window stays."
-abbrev pub flushedWith : Session → List ℕ → List ℕ → List ℕ → Outcome
-flushedWith s registers flash memory =
-    record {
-      answer = answered (withMarks clean s) registers 1 [] (flushWhole s memory flash .actions);
-      flash = flushWhole s memory flash .flash;
-      memory = memory;
-    }
+abbrev pub flushedAll : List ℕ → Machine → Outcome
+flushedAll registers m =
+    outcome (answered (withMarks clean (m .session)) registers 1 [] (flushWhole m .actions)) (flushWhole m .flash) (m .memory)
 
-abbrev pub flushed : Session → List ℕ → List ℕ → List ℕ → Outcome
-flushed s registers flash memory =
-    flushedWith (cond (flushMarks s registers) (marked dirty s registers) s) registers flash memory
+-- the session whose marks it flushes: at version 1 with its own
+abbrev pub flushing : Session → List ℕ → Session
+flushing s registers = cond (flushMarks s registers) (marked dirty s registers) s
+
+abbrev pub flushed : List ℕ → Machine → Outcome
+flushed registers m = flushedAll registers (holding (flushing (m .session) registers) m)
 
 -- ---- 9 ACK: "clears in the event byte every bit that argument 0 names"
 abbrev pub ackAnswer : Session → List ℕ → Answer
 ackAnswer s registers = answered (withEvents (clearBits (argument 0 registers) (s .events)) s) registers 1 [] 0
 
 -- ---- 10 ERASE: "Those blocks are marked erased, and become FF in window memory at once."
-abbrev pub erasedOutcome : Session → List ℕ → List ℕ → List ℕ → Outcome
-erasedOutcome s registers flash memory =
-    record {
-      answer = answered (marked erasedMark s registers) registers 1 [] 0;
-      flash = flash;
-      memory = erased (toBytes (blocksNamed s registers .start)) (toBytes (blocksNamed s registers .count)) memory;
-    }
+abbrev pub erasedOutcome : List ℕ → Machine → Outcome
+erasedOutcome registers m =
+    outcome (answered (marked erasedMark (m .session) registers) registers 1 [] 0) (m .flash)
+    (erased (toBytes (blocksNamed (m .session) registers .start)) (toBytes (blocksNamed (m .session) registers .count)) (m .memory))

@@ -5,76 +5,58 @@ use mathlib.Core.List.{List, []}
 use lib.Dec.{eqb}
 use lib.ListN.{length}
 use Rattle.units.specs.Units.{roundUp}
-use Rattle.session.specs.declared.Session.{Session}
-use Rattle.session.specs.declared.Previous.the-variants.{Number}
 use Rattle.session.specs.declared.Window.the-variants.{Read, Write}
-use Rattle.refusals.specs.declared.Board.{Board}
-use Rattle.mailbox.specs.declared.Answer.{Answer}
+use Rattle.session.specs.Machine.{Setup, Machine, holding}
 use Rattle.refusals.specs.declared.Reason.{Reason}
 use Rattle.refusals.specs.declared.Reason.the-variants.{Accepted, System, Repeated, Unknown, Suspended, Windowless, Argument}
-use Rattle.refusals.specs.Registers.{commandOf, sequenceOf}
-use Rattle.refusals.specs.Refusals.{reasonFor, codeFor}
-use Rattle.mailbox.specs.Commands.{Outcome, answered, resetAnswer, infoAnswer, flashInfoAnswer, created, closing, closed, dirtyAnswer, flushed, ackAnswer, erasedOutcome}
+use Rattle.registers.specs.Registers.{commandOf}
+use Rattle.refusals.specs.Refusals.{reasonIn, codeFor}
+use Rattle.mailbox.specs.Commands.{Outcome, leaving, numbered, answered, resetAnswer, infoAnswer, flashInfoAnswer, created, closing, closed, dirtyAnswer, flushed, ackAnswer, erasedOutcome}
 
--- "Every other answered command makes its number the previous one"
-abbrev pub numbered : Session → List ℕ → Session
-numbered s registers =
-    record {
-      version = s .version;
-      previous = Number (sequenceOf registers);
-      events = s .events;
-      suspended = s .suspended;
-      window = s .window;
-      first = s .first;
-      size = s .size;
-      marks = s .marks;
-    }
-
--- an answer that leaves both buffers alone
-abbrev pub leaving : Answer → List ℕ → List ℕ → Outcome
-leaving answer flash memory = record { answer = answer; flash = flash; memory = memory }
-
--- the command that is carried out, by its code
-unfoldable pub served : ℕ → Board → Session → List ℕ → List ℕ → List ℕ → Outcome
-served command board s registers flash memory =
-    cond (eqb command 1) (leaving (resetAnswer s registers) flash memory)
-    (cond (eqb command 2) (leaving (infoAnswer board s registers (roundUp (length memory))) flash memory)
-    (cond (eqb command 3) (leaving (flashInfoAnswer s registers (roundUp (length flash))) flash memory)
-    (cond (eqb command 4) (created Read board s registers flash memory)
-    (cond (eqb command 5) (closed s registers flash memory)
-    (cond (eqb command 6) (created Write board s registers flash memory)
-    (cond (eqb command 7) (leaving (dirtyAnswer s registers) flash memory)
-    (cond (eqb command 8) (flushed s registers flash memory)
-    (cond (eqb command 9) (leaving (ackAnswer s registers) flash memory)
-    (erasedOutcome s registers flash memory)))))))))
+-- the command that is carried out, by its code; of the codes that pass the table the last is 10, ERASE
+unfoldable pub served : ℕ → Setup → List ℕ → Machine → Outcome
+served command setup registers m =
+    cond (eqb command 1) (leaving (resetAnswer (m .session) registers) m)
+    (cond (eqb command 2) (leaving (infoAnswer setup (m .session) registers (roundUp (length (m .memory)))) m)
+    (cond (eqb command 3) (leaving (flashInfoAnswer (m .session) registers (roundUp (length (m .flash)))) m)
+    (cond (eqb command 4) (created Read setup registers m)
+    (cond (eqb command 5) (closed registers m)
+    (cond (eqb command 6) (created Write setup registers m)
+    (cond (eqb command 7) (leaving (dirtyAnswer (m .session) registers) m)
+    (cond (eqb command 8) (flushed registers m)
+    (cond (eqb command 9) (leaving (ackAnswer (m .session) registers) m)
+    (erasedOutcome registers m)))))))))
 
 -- "A refusal has zero arguments and changes nothing but the previous sequence number, with two exceptions: SYSTEM_ERROR keeps even that, and
 -- a create refused for its argument has already closed and flushed the old window."
-abbrev pub refused : ℕ → Session → List ℕ → List ℕ → List ℕ → Outcome
-refused code s registers flash memory = leaving (answered s registers code [] 0) flash memory
+abbrev pub refused : ℕ → List ℕ → Machine → Outcome
+refused code registers m = leaving (answered (m .session) registers code [] 0) m
 
 -- a create of either kind
 abbrev pub isCreate : List ℕ → Bool
 isCreate registers = eqb (commandOf registers) 4 || eqb (commandOf registers) 6
 
+-- what a call is given, with its number as the previous one
+abbrev pub numberedIn : List ℕ → Machine → Machine
+numberedIn registers m = holding (numbered (m .session) registers) m
+
 -- the refusal for an argument
-abbrev pub argumentRefused : Session → List ℕ → List ℕ → List ℕ → Outcome
-argumentRefused s registers flash memory =
+abbrev pub argumentRefused : List ℕ → Machine → Outcome
+argumentRefused registers m =
     cond (isCreate registers)
-    (closing (codeFor (s .version) Argument) (numbered s registers) registers flash memory)
-    (refused (codeFor (s .version) Argument) (numbered s registers) registers flash memory)
+    (closing (codeFor (m .session .version) Argument) registers (numberedIn registers m))
+    (refused (codeFor (m .session .version) Argument) registers (numberedIn registers m))
 
 -- what is left, by the first check that refuses
-unfoldable pub answerTo : Reason → Board → Session → List ℕ → List ℕ → List ℕ → Outcome
-answerTo Accepted board s registers flash memory = served (commandOf registers) board (numbered s registers) registers flash memory
-answerTo System board s registers flash memory = refused (codeFor (s .version) System) s registers flash memory
-answerTo Repeated board s registers flash memory = refused (codeFor (s .version) Repeated) (numbered s registers) registers flash memory
-answerTo Unknown board s registers flash memory = refused (codeFor (s .version) Unknown) (numbered s registers) registers flash memory
-answerTo Suspended board s registers flash memory = refused (codeFor (s .version) Suspended) (numbered s registers) registers flash memory
-answerTo Windowless board s registers flash memory = refused (codeFor (s .version) Windowless) (numbered s registers) registers flash memory
-answerTo Argument board s registers flash memory = argumentRefused s registers flash memory
+unfoldable pub answerTo : Reason → Setup → List ℕ → Machine → Outcome
+answerTo Accepted setup registers m = served (commandOf registers) setup registers (numberedIn registers m)
+answerTo System setup registers m = refused (codeFor (m .session .version) System) registers m
+answerTo Repeated setup registers m = refused (codeFor (m .session .version) Repeated) registers (numberedIn registers m)
+answerTo Unknown setup registers m = refused (codeFor (m .session .version) Unknown) registers (numberedIn registers m)
+answerTo Suspended setup registers m = refused (codeFor (m .session .version) Suspended) registers (numberedIn registers m)
+answerTo Windowless setup registers m = refused (codeFor (m .session .version) Windowless) registers (numberedIn registers m)
+answerTo Argument setup registers m = argumentRefused registers m
 
 -- what a command leaves
-unfoldable pub mediate : Board → Session → List ℕ → List ℕ → List ℕ → Outcome
-mediate board s registers flash memory =
-    answerTo (reasonFor board s registers (length flash) (length memory)) board s registers flash memory
+unfoldable pub mediate : Setup → List ℕ → Machine → Outcome
+mediate setup registers m = answerTo (reasonIn setup registers m) setup registers m

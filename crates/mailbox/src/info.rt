@@ -1,35 +1,34 @@
 // GET_INFO and GET_FLASH_INFO.
 use crate::Answer;
-use crate::registers::answer;
-use refusals::Board;
+use crate::answers::answer;
+use session::Board;
 use session::Session;
+use session::with_version;
 use units::Blocks;
 ghost use mathlib.Core.Path.{_≡_};
 ghost use Prim.Native.Nat.{_<_};
+ghost use Rattle.session.specs.Machine.{setUp};
 ghost use Rattle.mailbox.specs.Commands.{infoAnswer, flashInfoAnswer};
 
 // Agrees the smaller of the host's highest version and 2; memory is the window memory in blocks.
 pub(crate) fn get_info(session: Session, registers: [u8; 16], board: Board, memory: u32) -> Answer
-    ensures { λ r. ⌜ r ≡ infoAnswer board session registers memory ⌝ }
+    ensures { λ r. ⌜ r ≡ infoAnswer (setUp board) session registers memory ⌝ }
 {
-    let mut next = session;
     if registers[2] < 2 {
-        next.version = registers[2];
         let low = (memory % 256) as u8;
         let high = (memory / 256 % 256) as u8;
         return answer(
-            next,
+            with_version(session, registers[2]),
             registers,
             1,
             [registers[2], low, high, low, high, 0, 0, 0, 0, 0, 0],
             0,
         );
     }
-    next.version = 2;
     let low = (board.timeout % 256) as u8;
     let high = (board.timeout / 256 % 256) as u8;
     answer(
-        next,
+        with_version(session, 2),
         registers,
         1,
         [2, 0, 0, 0, 0, 12, low, high, 0, 0, 0],

@@ -1,37 +1,38 @@
 // The mailbox commands of hiomap versions 1 and 2: one mediator over values, and each command under it.
 //
 // Every content of the registers, every session record and every buffer length gets an answer.
+mod answers;
 mod info;
 mod marks;
-mod registers;
 mod windows;
 
+use answers::answer;
 use info::get_flash_info;
 use info::get_info;
 use marks::acknowledge;
 use marks::erase;
 use marks::flush;
 use marks::mark_dirty;
-use refusals::Board;
 use refusals::Reason;
 use refusals::code_for;
 use refusals::reason_for;
-use registers::NONE;
-use registers::answer;
+use registers::NO_ARGUMENTS;
+use session::Board;
 use session::Previous;
 use session::Session;
 use session::Window;
+use session::with_previous;
 use units::Bytes;
 use windows::close_window;
 use windows::create_window;
 use windows::reset;
 ghost use mathlib.Core.Path.{_≡_};
-ghost use lib.ListN.{length};
 ghost use Rattle.refusals.specs.declared.Reason.the-variants.{Accepted};
-ghost use Rattle.mailbox.specs.Commands.{answered};
-ghost use Rattle.refusals.specs.Refusals.{reasonFor, codeFor};
-ghost use Rattle.mailbox.specs.Mediator.{numbered, served, argumentRefused, mediate};
-ghost use Rattle.refusals.specs.Registers.{commandOf};
+ghost use Rattle.session.specs.Machine.{setUp, lent};
+ghost use Rattle.refusals.specs.Refusals.{reasonIn, codeFor};
+ghost use Rattle.mailbox.specs.Commands.{outcome, answered, numbered};
+ghost use Rattle.mailbox.specs.Mediator.{served, argumentRefused, mediate};
+ghost use Rattle.registers.specs.Registers.{commandOf};
 ghost use mathlib.Core.List.{[]};
 
 // What a command gives back: the session, the 16 registers and the number of chip actions.
@@ -49,9 +50,8 @@ pub fn command(
     flash: &mut [u8],
     memory: &mut [u8],
 ) -> Answer
-    ensures { λ r. ⌜ (r ≡ mediate board session registers (now (flash .entry)) (now (memory .entry)) .answer)
-        × (now (flash .exit) ≡ mediate board session registers (now (flash .entry)) (now (memory .entry)) .flash)
-        × (now (memory .exit) ≡ mediate board session registers (now (flash .entry)) (now (memory .entry)) .memory) ⌝ }
+    ensures { λ r. ⌜ outcome r (now (flash .exit)) (now (memory .exit))
+        ≡ mediate (setUp board) registers (lent session (now (flash .entry)) (now (memory .entry))) ⌝ }
 {
     let reason = reason_for(session, registers, board, flash.len(), memory.len());
     match reason {
@@ -73,10 +73,9 @@ fn serve(
     flash: &mut [u8],
     memory: &mut [u8],
 ) -> Answer
-    requires { ⌜ reasonFor board session registers (length (now flash)) (length (now memory)) ≡ Accepted ⌝ }
-    ensures { λ r. ⌜ (r ≡ served (commandOf registers) board (numbered session registers) registers (now (flash .entry)) (now (memory .entry)) .answer)
-        × (now (flash .exit) ≡ served (commandOf registers) board (numbered session registers) registers (now (flash .entry)) (now (memory .entry)) .flash)
-        × (now (memory .exit) ≡ served (commandOf registers) board (numbered session registers) registers (now (flash .entry)) (now (memory .entry)) .memory) ⌝ }
+    requires { ⌜ reasonIn (setUp board) registers (lent session (now flash) (now memory)) ≡ Accepted ⌝ }
+    ensures { λ r. ⌜ outcome r (now (flash .exit)) (now (memory .exit))
+        ≡ served (commandOf registers) (setUp board) registers (lent (numbered session registers) (now (flash .entry)) (now (memory .entry))) ⌝ }
 {
     let next = with_number(session, registers);
     let code = registers[0];
@@ -103,7 +102,7 @@ fn serve(
 fn refuse(session: Session, registers: [u8; 16], code: u8) -> Answer
     ensures { λ r. ⌜ r ≡ answered session registers code [] 0 ⌝ }
 {
-    answer(session, registers, code, NONE, 0)
+    answer(session, registers, code, NO_ARGUMENTS, 0)
 }
 
 // A refusal that makes the number the previous one.
@@ -119,8 +118,8 @@ fn refuse_numbered(session: Session, registers: [u8; 16], reason: Reason) -> Ans
 
 // A refusal for an argument: a create closes its window all the same.
 fn refuse_argument(session: Session, registers: [u8; 16], flash: &mut [u8], memory: &[u8]) -> Answer
-    ensures { λ r. ⌜ (r ≡ argumentRefused session registers (now (flash .entry)) (now (memory .entry)) .answer)
-        × (now (flash .exit) ≡ argumentRefused session registers (now (flash .entry)) (now (memory .entry)) .flash) ⌝ }
+    ensures { λ r. ⌜ outcome r (now (flash .exit)) (now (memory .entry))
+        ≡ argumentRefused registers (lent session (now (flash .entry)) (now (memory .entry))) ⌝ }
 {
     let next = with_number(session, registers);
     let code = registers[0];
@@ -137,16 +136,5 @@ fn refuse_argument(session: Session, registers: [u8; 16], flash: &mut [u8], memo
 fn with_number(session: Session, registers: [u8; 16]) -> Session
     ensures { λ r. ⌜ r ≡ numbered session registers ⌝ }
 {
-    let window = session.window;
-    let marks = session.marks;
-    Session {
-        version: session.version,
-        previous: Previous::Number(registers[1]),
-        events: session.events,
-        suspended: session.suspended,
-        window,
-        first: session.first,
-        size: session.size,
-        marks,
-    }
+    with_previous(session, Previous::Number(registers[1]))
 }

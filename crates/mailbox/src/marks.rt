@@ -1,40 +1,48 @@
 // MARK_DIRTY, ERASE, FLUSH and ACK.
 use crate::Answer;
-use crate::registers::NONE;
-use crate::registers::answer;
+use crate::answers::answer;
 use buffers::fill;
-use flush::DIRTY;
-use flush::ERASED;
 use flush::flush_window;
 use refusals::blocks_named;
 use refusals::flush_marks;
+use registers::NO_ARGUMENTS;
+use session::CLEAN;
+use session::DIRTY;
+use session::ERASED;
 use session::Session;
+use session::with_access;
+use session::with_marks;
 use units::Blocks;
 ghost use mathlib.Core.Path.{_≡_};
 ghost use mathlib.Core.Bool.{true};
-ghost use Prim.Native.Nat.{_+_, _≤_};
-ghost use mathlib.Core.List.{[]};
+ghost use Prim.Native.Nat.{ℕ, _+_, _≤_};
+ghost use mathlib.Core.List.{List};
 ghost use lib.ListN.{length, replicate};
 ghost use Rattle.buffers.specs.Ranges.{replace};
 ghost use Rattle.units.specs.Units.{toBytes};
-ghost use Rattle.session.specs.Record.{clean};
+ghost use Rattle.session.specs.Machine.{lent};
 ghost use Rattle.refusals.specs.Refusals.{blocksNamed, flushMarks};
-ghost use Rattle.mailbox.specs.Commands.{marked, withMarks, dirtyAnswer, flushedWith, flushed, ackAnswer, erasedOutcome};
+ghost use Rattle.mailbox.specs.Commands.{outcome, marked, dirtyAnswer, flushedAll, flushed, ackAnswer, erasedOutcome};
 
 // The named blocks are marked dirty.
 pub(crate) fn mark_dirty(session: Session, registers: [u8; 16]) -> Answer
     requires { ⌜ blocksNamed session registers .start + blocksNamed session registers .count ≤ 64 ⌝ }
     ensures { λ r. ⌜ r ≡ dirtyAnswer session registers ⌝ }
 {
-    answer(mark_named(session, registers, DIRTY), registers, 1, NONE, 0)
+    answer(
+        mark_named(session, registers, DIRTY),
+        registers,
+        1,
+        NO_ARGUMENTS,
+        0,
+    )
 }
 
 // The named blocks are marked erased, and become FF in the window memory.
 pub(crate) fn erase(session: Session, registers: [u8; 16], memory: &mut [u8]) -> Answer
     requires { ⌜ blocksNamed session registers .start + blocksNamed session registers .count ≤ 64 ⌝ }
     requires { ⌜ toBytes (blocksNamed session registers .start) + toBytes (blocksNamed session registers .count) ≤ length (now memory) ⌝ }
-    ensures { λ r. ⌜ (r ≡ erasedOutcome session registers [] (now (memory .entry)) .answer)
-        × (now (memory .exit) ≡ erasedOutcome session registers [] (now (memory .entry)) .memory) ⌝ }
+    ensures { λ r. ⌜ ((flash : List ℕ) → outcome r flash (now (memory .exit)) ≡ erasedOutcome registers (lent session flash (now (memory .entry)))) ⌝ }
 {
     let named = blocks_named(session, registers);
     let start = Blocks(named.start).bytes().0 as usize;
@@ -44,7 +52,7 @@ pub(crate) fn erase(session: Session, registers: [u8; 16], memory: &mut [u8]) ->
         mark_named(session, registers, ERASED),
         registers,
         1,
-        NONE,
+        NO_ARGUMENTS,
         0,
     )
 }
@@ -57,8 +65,7 @@ pub(crate) fn flush(
     memory: &[u8],
 ) -> Answer
     requires { ⌜ (flushMarks session registers ≡ true → blocksNamed session registers .start + blocksNamed session registers .count ≤ 64) ⌝ }
-    ensures { λ r. ⌜ (r ≡ flushed session registers (now (flash .entry)) (now (memory .entry)) .answer)
-        × (now (flash .exit) ≡ flushed session registers (now (flash .entry)) (now (memory .entry)) .flash) ⌝ }
+    ensures { λ r. ⌜ outcome r (now (flash .exit)) (now (memory .entry)) ≡ flushed registers (lent session (now (flash .entry)) (now (memory .entry))) ⌝ }
 {
     if flush_marks(session, registers) {
         return flush_all(
@@ -72,22 +79,30 @@ pub(crate) fn flush(
 }
 
 fn flush_all(session: Session, registers: [u8; 16], flash: &mut [u8], memory: &[u8]) -> Answer
-    ensures { λ r. ⌜ (r ≡ flushedWith session registers (now (flash .entry)) (now (memory .entry)) .answer)
-        × (now (flash .exit) ≡ flushedWith session registers (now (flash .entry)) (now (memory .entry)) .flash) ⌝ }
+    ensures { λ r. ⌜ outcome r (now (flash .exit)) (now (memory .entry)) ≡ flushedAll registers (lent session (now (flash .entry)) (now (memory .entry))) ⌝ }
 {
     let actions = flush_window(session, flash, memory);
-    let mut next = session;
-    next.marks = [0; 64];
-    answer(next, registers, 1, NONE, actions)
+    answer(
+        with_marks(session, [CLEAN; 64]),
+        registers,
+        1,
+        NO_ARGUMENTS,
+        actions,
+    )
 }
 
 // Clears the event bits that argument 0 names.
 pub(crate) fn acknowledge(session: Session, registers: [u8; 16]) -> Answer
     ensures { λ r. ⌜ r ≡ ackAnswer session registers ⌝ }
 {
-    let mut next = session;
-    next.events = session.events & (0xff - registers[2]);
-    answer(next, registers, 1, NONE, 0)
+    let events = session.events & (0xff - registers[2]);
+    answer(
+        with_access(session, session.suspended, events),
+        registers,
+        1,
+        NO_ARGUMENTS,
+        0,
+    )
 }
 
 // The session with one mark at each named block.
@@ -98,9 +113,7 @@ fn mark_named(session: Session, registers: [u8; 16], mark: u8) -> Session
     let named = blocks_named(session, registers);
     let marks = session.marks;
     let after = mark_blocks(marks, named.start as usize, named.count as usize, mark);
-    let mut next = session;
-    next.marks = after;
-    next
+    with_marks(session, after)
 }
 
 // The marks with one value from a block on.

@@ -1,13 +1,15 @@
 // RESET, CREATE_READ_WINDOW, CREATE_WRITE_WINDOW and CLOSE_WINDOW.
 use crate::Answer;
-use crate::registers::NONE;
-use crate::registers::answer;
+use crate::answers::answer;
 use buffers::copy;
 use flush::flush_window;
-use refusals::Board;
-use refusals::read_words;
+use registers::NO_ARGUMENTS;
+use registers::read_words;
+use session::Board;
 use session::Session;
 use session::Window;
+use session::with_window;
+use session::without_window;
 use units::Blocks;
 use units::Bytes;
 ghost use mathlib.Core.Path.{_≡_};
@@ -17,15 +19,15 @@ ghost use lib.Dec.{ltb};
 ghost use lib.ListN.{length};
 ghost use Rattle.buffers.specs.Ranges.{range, replace};
 ghost use Rattle.units.specs.Units.{toBytes, roundUp};
-ghost use Rattle.session.specs.Record.{dropWindow};
-ghost use Rattle.refusals.specs.Registers.{number};
-ghost use Rattle.mailbox.specs.Commands.{answered, resetAnswer, closing, withWindow, sizeFor, createArguments, opened, created};
+ghost use Rattle.session.specs.Machine.{setUp, lent};
+ghost use Rattle.registers.specs.Registers.{number};
+ghost use Rattle.mailbox.specs.Commands.{outcome, answered, resetAnswer, closing, sizeFor, createArguments, opened, created};
 
 // The window and its marks are dropped, without a flush.
 pub(crate) fn reset(session: Session, registers: [u8; 16]) -> Answer
     ensures { λ r. ⌜ r ≡ resetAnswer session registers ⌝ }
 {
-    answer(without_window(session), registers, 1, NONE, 0)
+    answer(without_window(session), registers, 1, NO_ARGUMENTS, 0)
 }
 
 // The window is flushed and dropped; the code is that of the answer.
@@ -36,11 +38,16 @@ pub(crate) fn close_window(
     flash: &mut [u8],
     memory: &[u8],
 ) -> Answer
-    ensures { λ r. ⌜ (r ≡ closing code session registers (now (flash .entry)) (now (memory .entry)) .answer)
-        × (now (flash .exit) ≡ closing code session registers (now (flash .entry)) (now (memory .entry)) .flash) ⌝ }
+    ensures { λ r. ⌜ outcome r (now (flash .exit)) (now (memory .entry)) ≡ closing code registers (lent session (now (flash .entry)) (now (memory .entry))) ⌝ }
 {
     let actions = flush_window(session, flash, memory);
-    answer(without_window(session), registers, code, NONE, actions)
+    answer(
+        without_window(session),
+        registers,
+        code,
+        NO_ARGUMENTS,
+        actions,
+    )
 }
 
 // The active window is closed, and a new one is opened at a block of the flash.
@@ -55,9 +62,8 @@ pub(crate) fn create_window(
     requires { ⌜ number 2 0 registers < roundUp (length (now flash)) ⌝ }
     requires { ⌜ (toBytes (roundUp (length (now flash))) ≡ length (now flash)) × (roundUp (length (now flash)) ≤ 65535) ⌝ }
     requires { ⌜ (toBytes (roundUp (length (now memory))) ≡ length (now memory)) × (roundUp (length (now memory)) ≤ 64) ⌝ }
-    ensures { λ r. ⌜ (r ≡ created window board session registers (now (flash .entry)) (now (memory .entry)) .answer)
-        × (now (flash .exit) ≡ created window board session registers (now (flash .entry)) (now (memory .entry)) .flash)
-        × (now (memory .exit) ≡ created window board session registers (now (flash .entry)) (now (memory .entry)) .memory) ⌝ }
+    ensures { λ r. ⌜ outcome r (now (flash .exit)) (now (memory .exit))
+        ≡ created window (setUp board) registers (lent session (now (flash .entry)) (now (memory .entry))) ⌝ }
 {
     let first = read_words(registers).first;
     let size = window_size(
@@ -122,14 +128,13 @@ fn open_window(
 ) -> Answer
     requires { ⌜ toBytes first + toBytes size ≤ length (now flash) ⌝ }
     requires { ⌜ toBytes size ≤ length (now memory) ⌝ }
-    ensures { λ r. ⌜ (r ≡ opened window first size board session registers (now (flash .entry)) (now (memory .entry)) .answer)
-        × (now (flash .exit) ≡ opened window first size board session registers (now (flash .entry)) (now (memory .entry)) .flash)
-        × (now (memory .exit) ≡ opened window first size board session registers (now (flash .entry)) (now (memory .entry)) .memory) ⌝ }
+    ensures { λ r. ⌜ outcome r (now (flash .exit)) (now (memory .exit))
+        ≡ opened window first size (setUp board) registers (lent session (now (flash .entry)) (now (memory .entry))) ⌝ }
 {
     let actions = flush_window(session, flash, memory);
     copy_blocks(flash, memory, first, size);
     open_answer(
-        with_window(window, first, size, session),
+        with_window(session, window, first, size),
         registers,
         board.lpc,
         actions,
@@ -146,28 +151,6 @@ fn copy_blocks(flash: &[u8], memory: &mut [u8], first: u16, size: u16)
     let bytes = Blocks(size as u32).bytes().0 as usize;
     let end = start + bytes;
     copy(&mut memory[0..bytes], &flash[start..end]);
-}
-
-fn with_window(window: Window, first: u16, size: u16, session: Session) -> Session
-    ensures { λ r. ⌜ r ≡ withWindow window first size session ⌝ }
-{
-    let previous = session.previous;
-    Session {
-        version: session.version,
-        previous,
-        events: session.events,
-        suspended: session.suspended,
-        window,
-        first,
-        size,
-        marks: [0; 64],
-    }
-}
-
-fn without_window(session: Session) -> Session
-    ensures { λ r. ⌜ r ≡ dropWindow session ⌝ }
-{
-    with_window(Window::Closed, 0, 0, session)
 }
 
 // The answer to a create, from the session with the new window.

@@ -11,17 +11,17 @@ use borrow.Author.Tests.{leb-true, leb-false, ne-eqb, not-false}
 use Rattle.units.proofs.Cases.{decided, both}
 use Rattle.units.specs.Units.{roundUp}
 use Rattle.session.specs.declared.Session.{Session}
+use Rattle.session.specs.Machine.{Setup}
 use Rattle.session.specs.Soundness.{sound, soundAt}
 use Rattle.session.proofs.Facts.{Sized, sized, sizes, Fitting, fitting}
-use Rattle.refusals.specs.declared.Board.{Board}
 use Rattle.refusals.specs.declared.Reason.{Reason}
 use Rattle.refusals.specs.declared.Reason.the-variants.{Accepted, System, Repeated, Unknown, Suspended, Windowless, Argument}
-use Rattle.refusals.specs.Registers.{commandOf, number}
+use Rattle.registers.specs.Registers.{commandOf, number}
 use Rattle.refusals.specs.Refusals.{blocksNamed, flushMarks, argumentBroken, repeated, known, suspendedFor, windowless, reasonFor}
 
 -- every check of the table has passed
-pub record Passed (board : Board) (s : Session) (registers : List ℕ) (flash memory : ℕ) : Type 0 where
-  pub sounds : soundAt (board .lpc) flash memory s ≡ true
+pub record Passed (setup : Setup) (s : Session) (registers : List ℕ) (flash memory : ℕ) : Type 0 where
+  pub sounds : soundAt setup flash memory s ≡ true
   pub fresh : repeated s registers ≡ false
   pub knows : known (s .version) (commandOf registers) ≡ true
   pub awake : suspendedFor s registers ≡ false
@@ -33,18 +33,18 @@ row : (t : Bool) (r rest : Reason) → (r ≡ Accepted → ⊥) → cond t r res
 row true r rest n e = absurd (n e)
 row false r rest n e = (refl, e)
 
-pub passed : (board : Board) (s : Session) (registers : List ℕ) (flash memory : ℕ) → reasonFor board s registers flash memory ≡ Accepted
-    → Passed board s registers flash memory
+pub passed : (setup : Setup) (s : Session) (registers : List ℕ) (flash memory : ℕ) → reasonFor setup s registers flash memory ≡ Accepted
+    → Passed setup s registers flash memory
 unfolding reasonFor
-passed board s registers flash memory e =
-    let a = row (not (soundAt (board .lpc) flash memory s)) System _ (λ q. no-system q) e in
+passed setup s registers flash memory e =
+    let a = row (not (soundAt setup flash memory s)) System _ (λ q. no-system q) e in
     let b = row (repeated s registers) Repeated _ (λ q. no-repeated q) (a .1) in
     let c = row (not (known (s .version) (commandOf registers))) Unknown _ (λ q. no-unknown q) (b .1) in
     let d = row (suspendedFor s registers) Suspended _ (λ q. no-suspended q) (c .1) in
     let f = row (windowless s registers) Windowless _ (λ q. no-windowless q) (d .1) in
     let g = row (argumentBroken s registers (roundUp flash)) Argument Accepted (λ q. no-argument q) (f .1) in
     record {
-      sounds = not-false (soundAt (board .lpc) flash memory s) (a .0);
+      sounds = not-false (soundAt setup flash memory s) (a .0);
       fresh = b .0;
       knows = not-false (known (s .version) (commandOf registers)) (c .0);
       awake = d .0;
@@ -77,10 +77,10 @@ pub record Measured (flash memory : ℕ) (s : Session) : Type 0 where
   pub memory-sized : Sized 64 memory
   pub fits : Fitting (roundUp flash) (roundUp memory) s
 
-pub measured : (lpc flash memory : ℕ) (s : Session) → soundAt lpc flash memory s ≡ true → Measured flash memory s
+pub measured : (setup : Setup) (flash memory : ℕ) (s : Session) → soundAt setup flash memory s ≡ true → Measured flash memory s
 unfolding soundAt
-measured lpc flash memory s e =
-    let t = both (sound flash memory s) (leb (lpc + roundUp memory) 65536) e .0 in
+measured setup flash memory s e =
+    let t = both (sound flash memory s) _ e .0 in
     let z = sizes flash memory s t in
     record {
       sound = t;

@@ -7,6 +7,7 @@ use lib.Dec.{leb}
 use Rattle.units.specs.Units.{roundUp, toBlocks}
 use Rattle.units.proofs.Cases.{both}
 use Rattle.session.specs.declared.Session.{Session}
+use Rattle.session.specs.Machine.{Setup}
 use Rattle.session.specs.Soundness.{soundAt}
 use Rattle.session.proofs.Facts.{sized, sizes, counted}
 use Rattle.refusals.specs.declared.BlockRange.{BlockRange}
@@ -20,7 +21,7 @@ abbrev pub inWindow : Session → ℕ → ℕ → BlockRange
 inWindow s named k = record { inside = leb (named + k) (s .size); start = named; count = k }
 
 -- a flash that passes the first check is counted exactly
-pub flash-counted : (lpc flash memory : ℕ) (s : Session) → soundAt lpc flash memory s ≡ true → toBlocks flash ≡ roundUp flash
+pub flash-counted : (setup : Setup) (flash memory : ℕ) (s : Session) → soundAt setup flash memory s ≡ true → toBlocks flash ≡ roundUp flash
 unfolding soundAt
-flash-counted lpc flash memory s e =
+flash-counted setup flash memory s e =
     counted 65535 flash (omega arith) (sized 65535 flash (sizes flash memory s (both _ _ e .0) .0))

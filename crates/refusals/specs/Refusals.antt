@@ -3,18 +3,19 @@ use Prim.Native.Nat.{ℕ, _+_, _-_}
 use mathlib.Core.Bool.{Bool, true, false, cond, not, _&&_, _||_}
 use mathlib.Core.List.{List, [], _∷_}
 use lib.Dec.{leb, ltb, eqb}
+use lib.ListN.{length}
 use Rattle.units.specs.Units.{roundUp}
 use Rattle.session.specs.declared.Session.{Session}
 use Rattle.session.specs.declared.Window.{Window}
 use Rattle.session.specs.declared.Window.the-variants.{Closed, Read, Write}
 use Rattle.session.specs.declared.Previous.{Previous}
 use Rattle.session.specs.declared.Previous.the-variants.{Absent, Number}
+use Rattle.session.specs.Machine.{Setup, Machine}
 use Rattle.session.specs.Soundness.{soundAt}
-use Rattle.refusals.specs.declared.Board.{Board}
 use Rattle.refusals.specs.declared.Reason.{Reason}
 use Rattle.refusals.specs.declared.Reason.the-variants.{Accepted, System, Repeated, Unknown, Suspended, Windowless, Argument}
 use Rattle.refusals.specs.declared.BlockRange.{BlockRange}
-use Rattle.refusals.specs.Registers.{commandOf, sequenceOf, argument, number}
+use Rattle.registers.specs.Registers.{commandOf, sequenceOf, argument, number}
 
 -- ---- the argument rules
 
@@ -84,9 +85,9 @@ pub record Row : Type 0 where
   pub reason : Reason
 
 -- the table, "exactly when (and no earlier check refused)"; the flash and the window memory are given by their lengths in bytes
-abbrev pub table : Board → Session → List ℕ → ℕ → ℕ → List Row
-table board s registers flash memory =
-    record { test = not (soundAt (board .lpc) flash memory s); reason = System }
+abbrev pub table : Setup → Session → List ℕ → ℕ → ℕ → List Row
+table setup s registers flash memory =
+    record { test = not (soundAt setup flash memory s); reason = System }
     ∷ record { test = repeated s registers; reason = Repeated }
     ∷ record { test = not (known (s .version) (commandOf registers)); reason = Unknown }
     ∷ record { test = suspendedFor s registers; reason = Suspended }
@@ -99,8 +100,12 @@ abbrev pub firstOf : List Row → Reason
 firstOf [] = Accepted
 firstOf (row ∷ rows) = cond (row .test) (row .reason) (firstOf rows)
 
-unfoldable pub reasonFor : Board → Session → List ℕ → ℕ → ℕ → Reason
-reasonFor board s registers flash memory = firstOf (table board s registers flash memory)
+unfoldable pub reasonFor : Setup → Session → List ℕ → ℕ → ℕ → Reason
+reasonFor setup s registers flash memory = firstOf (table setup s registers flash memory)
+
+-- the same, of what a call is given
+abbrev pub reasonIn : Setup → List ℕ → Machine → Reason
+reasonIn setup registers m = reasonFor setup (m .session) registers (length (m .flash)) (length (m .memory))
 
 -- the codes: 4 SYSTEM_ERROR, 8 SEQ_ERROR, 2 PARAM_ERROR, 6 BUSY, 7 WINDOW_ERROR, 1 SUCCESS; at versions 0 and 1
 -- code 2 stands for 8 and 5 for 6, at version 1 code 2 for 7 (version 0 does not know those commands)

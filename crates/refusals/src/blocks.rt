@@ -1,7 +1,7 @@
 // The blocks of the window that the arguments of a command name.
 use crate::BlockRange;
-use crate::registers::long;
-use crate::registers::word;
+use registers::read_length;
+use registers::read_words;
 use session::Session;
 use units::Blocks;
 use units::Bytes;
@@ -16,7 +16,7 @@ pub fn flush_marks(session: Session, registers: [u8; 16]) -> bool
     ensures { λ r. ⌜ r ≡ flushMarks session registers ⌝ }
 {
     if session.version < 2 {
-        long(registers, 2) != 0
+        read_length(registers) != 0
     } else {
         false
     }
@@ -26,29 +26,27 @@ pub fn flush_marks(session: Session, registers: [u8; 16]) -> bool
 pub fn blocks_named(session: Session, registers: [u8; 16]) -> BlockRange
     ensures { λ r. ⌜ r ≡ blocksNamed session registers ⌝ }
 {
-    let named = word(registers, 0) as u32;
+    let words = read_words(registers);
+    let named = Blocks(words.first as u32);
+    let size = Blocks(session.size as u32);
     if session.version < 2 {
-        let count = Bytes(long(registers, 2) as u64).blocks();
-        flash_blocks(session.first as u32, session.size as u32, named, count)
+        let count = Bytes(read_length(registers) as u64).blocks();
+        flash_blocks(Blocks(session.first as u32), size, named, count)
     } else {
-        window_blocks(
-            session.size as u32,
-            named,
-            Blocks(word(registers, 2) as u32),
-        )
+        window_blocks(size, named, Blocks(words.second as u32))
     }
 }
 
 // Version 1: blocks of the flash.
-fn flash_blocks(first: u32, size: u32, named: u32, count: Blocks) -> BlockRange
-    requires { ⌜ (first < 65536) × (size < 65536) × (named < 65536) × (count .0 ≤ 1048576) ⌝ }
+fn flash_blocks(first: Blocks, size: Blocks, named: Blocks, count: Blocks) -> BlockRange
+    requires { ⌜ (first .0 < 65536) × (size .0 < 65536) × (named .0 < 65536) × (count .0 ≤ 1048576) ⌝ }
     ensures { λ r. ⌜ r ≡ record {
-      inside = leb first named && leb (named + count .0) (first + size);
-      start = named - first;
+      inside = leb (first .0) (named .0) && leb (named .0 + count .0) (first .0 + size .0);
+      start = named .0 - first .0;
       count = count .0;
     } ⌝ }
 {
-    if named < first {
+    if named.0 < first.0 {
         return BlockRange {
             inside: false,
             start: 0,
@@ -56,20 +54,20 @@ fn flash_blocks(first: u32, size: u32, named: u32, count: Blocks) -> BlockRange
         };
     }
     BlockRange {
-        inside: named + count.0 <= first + size,
-        start: named - first,
+        inside: named.0 + count.0 <= first.0 + size.0,
+        start: named.0 - first.0,
         count: count.0,
     }
 }
 
 // Version 2: blocks of the window.
-fn window_blocks(size: u32, named: u32, count: Blocks) -> BlockRange
-    requires { ⌜ (named < 65536) × (count .0 < 65536) ⌝ }
-    ensures { λ r. ⌜ r ≡ record { inside = leb (named + count .0) size; start = named; count = count .0 } ⌝ }
+fn window_blocks(size: Blocks, named: Blocks, count: Blocks) -> BlockRange
+    requires { ⌜ (named .0 < 65536) × (count .0 < 65536) ⌝ }
+    ensures { λ r. ⌜ r ≡ record { inside = leb (named .0 + count .0) (size .0); start = named .0; count = count .0 } ⌝ }
 {
     BlockRange {
-        inside: named + count.0 <= size,
-        start: named,
+        inside: named.0 + count.0 <= size.0,
+        start: named.0,
         count: count.0,
     }
 }

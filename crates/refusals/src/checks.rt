@@ -1,9 +1,9 @@
 // The checks of the table, and the code that says which one refused.
-use crate::Board;
 use crate::Reason;
 use crate::blocks::blocks_named;
 use crate::blocks::flush_marks;
-use crate::registers::word;
+use registers::read_words;
+use session::Board;
 use session::Previous;
 use session::Session;
 use session::Window;
@@ -12,6 +12,7 @@ use units::Bytes;
 ghost use mathlib.Core.Path.{_≡_};
 ghost use mathlib.Core.Bool.{not, cond, _&&_, _||_};
 ghost use lib.Dec.{eqb, ltb};
+ghost use Rattle.session.specs.Machine.{setUp};
 ghost use Rattle.refusals.specs.Refusals.{blocksNamed, flushMarks, argumentBroken, isPrevious, repeated, known, suspendedFor, isWrite, windowless, reasonFor, codeFor};
 
 // The first check of the table that refuses a command, from the lengths of both buffers in bytes.
@@ -22,9 +23,9 @@ pub fn reason_for(
     flash: usize,
     memory: usize,
 ) -> Reason
-    ensures { λ r. ⌜ r ≡ reasonFor board session registers flash memory ⌝ }
+    ensures { λ r. ⌜ r ≡ reasonFor (setUp board) session registers flash memory ⌝ }
 {
-    if !is_sound_at(session, flash, memory, board.lpc) {
+    if !is_sound_at(session, board, flash, memory) {
         return Reason::System;
     }
     if is_repeated(session, registers) {
@@ -165,7 +166,7 @@ fn breaks_a_rule(session: Session, registers: [u8; 16], flash: u32) -> bool
     let code = registers[0];
     match code {
         2 => registers[2] == 0,
-        4 | 6 => flash <= word(registers, 0) as u32,
+        4 | 6 => flash <= read_words(registers).first as u32,
         7 | 10 => !blocks_named(session, registers).inside,
         8 => flush_breaks_a_rule(session, registers),
         _ => false,

@@ -3,19 +3,11 @@
 // Every content of the registers, every session record and every buffer length gets an answer.
 mod blocks;
 mod checks;
-mod registers;
 
 pub use blocks::blocks_named;
 pub use blocks::flush_marks;
 pub use checks::code_for;
 pub use checks::reason_for;
-pub use registers::read_words;
-
-// What a board fixes: the window's first LPC block, and the suggested timeout in seconds.
-pub struct Board {
-    pub lpc: u16,
-    pub timeout: u16,
-}
 
 // The first check of the table that refuses a command.
 pub enum Reason {
@@ -33,10 +25,4 @@ pub struct BlockRange {
     pub inside: bool,
     pub start: u32,
     pub count: u32,
-}
-
-// Two 16-bit arguments.
-pub struct Words {
-    pub first: u16,
-    pub second: u16,
 }

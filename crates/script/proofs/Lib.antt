@@ -1,5 +1,3 @@
 mod Filling
-mod Lines
 mod Numbers
-mod Others
 pub mod Progress

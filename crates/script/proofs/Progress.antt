@@ -11,8 +11,7 @@ use Rattle.units.proofs.Cases.{chosen}
 use Rattle.leb128.specs.Groups.{Decoded, found, cutShort, notShortest, before, decode, bounded, readAt}
 use Rattle.leb128.specs.declared.Read.{Read}
 use Rattle.leb128.specs.declared.Read.the-variants.{Number, Short, Malformed}
-use Rattle.session.specs.declared.Session.{Session}
-use Rattle.refusals.specs.declared.Board.{Board}
+use Rattle.session.specs.Machine.{Setup, Machine}
 use Rattle.script.specs.declared.Item.{Item}
 use Rattle.script.specs.declared.Kind.{Kind}
 use Rattle.script.specs.declared.Kind.the-variants.{Malformed as Bad}
@@ -102,10 +101,10 @@ module _ (bytes : List ℕ) (at : ℕ) where
   past-record = past-number at at (readAt bytes at) (ofKind bytes) (omega arith) (beyond-read bytes at) past-kind
 
 -- what serves a record says whether it keeps the rules
-pub moves-on : (bytes : List ℕ) (at : ℕ) (item : Item) → item ≡ recordAt bytes at → (board : Board) (s : Session) (flash memory : List ℕ)
-    → effect board item s flash memory .served .good ≡ true → at < item .next
-moves-on bytes at item e board s flash memory good =
+pub moves-on : (bytes : List ℕ) (at : ℕ) (item : Item) → item ≡ recordAt bytes at → (setup : Setup) (m : Machine)
+    → effect setup item m .good ≡ true → at < item .next
+moves-on bytes at item e setup m good =
     ⊎-elim
-    (λ m. absurd (true≢false (sym good ∙ ap (λ (k : Kind). effectOf k board item s flash memory .served .good) m)))
+    (λ b. absurd (true≢false (sym good ∙ ap (λ (k : Kind). effectOf k setup item m .good) b)))
     (λ h. h)
     (subst (Past at) (sym e) (past-record bytes at))

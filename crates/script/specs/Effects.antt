@@ -8,8 +8,7 @@ use Rattle.units.specs.Units.{toBytes}
 use Rattle.buffers.specs.Ranges.{replace}
 use Rattle.session.specs.declared.Session.{Session}
 use Rattle.session.specs.Suspension.{suspended, resumed, resumedChanged}
-use Rattle.refusals.specs.declared.Board.{Board}
-use Rattle.mailbox.specs.declared.Answer.{Answer}
+use Rattle.session.specs.Machine.{Setup, Machine, lent}
 use Rattle.refusals.specs.Refusals.{isWrite}
 use Rattle.mailbox.specs.Commands.{Outcome}
 use Rattle.mailbox.specs.Mediator.{mediate}
@@ -31,41 +30,41 @@ filled s offset count value memory =
 
 -- ---- all records
 
--- what is left: whether the rules are kept, the session and the registers, and both buffers
+-- what is left: whether the rules are kept, the registers, and the session and both buffers
 pub record Effect : Type 0 where
-  pub served : Served
-  pub flash : List ℕ
-  pub memory : List ℕ
+  pub good : Bool
+  pub registers : List ℕ
+  pub machine : Machine
+
+-- as the code has them
+abbrev pub effected : Served → List ℕ → List ℕ → Effect
+effected r flash memory = record { good = r .good; registers = r .registers; machine = lent (r .session) flash memory }
 
 -- a record that keeps the rules and leaves this session
 abbrev pub keeping : Session → List ℕ → Served
 keeping s registers = record { good = true; session = s; registers = registers }
 
--- a command's session, and "its 16 registers afterwards"
-abbrev pub afterCommand : Answer → Served
-afterCommand a = keeping (a .session) (a .registers)
-
 -- a record that leaves both buffers alone
-abbrev pub apart : Served → List ℕ → List ℕ → Effect
-apart served flash memory = record { served = served; flash = flash; memory = memory }
+abbrev pub apart : Served → Machine → Effect
+apart r m = effected r (m .flash) (m .memory)
 
+-- a command's session, and "its 16 registers afterwards"
 abbrev pub commanded : Outcome → Effect
-commanded o = record { served = afterCommand (o .answer); flash = o .flash; memory = o .memory }
+commanded o = record { good = true; registers = o .registers; machine = o .machine }
 
 -- "is a command; .. is the host filling ..; 2 suspend; 3 resume; 4 resume with changed flash"; "A record that breaks these rules" does nothing
-abbrev pub effectOf : Kind → Board → Item → Session → List ℕ → List ℕ → Effect
-effectOf Command board item s flash memory = commanded (mediate board s (item .registers) flash memory)
-effectOf Fill board item s flash memory =
+abbrev pub effectOf : Kind → Setup → Item → Machine → Effect
+effectOf Command setup item m = commanded (mediate setup (item .registers) m)
+effectOf Fill setup item m =
     record {
-      served = record { good = fillAllowed s (length memory) (item .offset) (item .count); session = s; registers = item .registers };
-      flash = flash;
-      memory = filled s (item .offset) (item .count) (item .value) memory;
+      good = fillAllowed (m .session) (length (m .memory)) (item .offset) (item .count);
+      registers = item .registers;
+      machine = lent (m .session) (m .flash) (filled (m .session) (item .offset) (item .count) (item .value) (m .memory));
     }
-effectOf Suspend board item s flash memory = apart (keeping (suspended s .session) (item .registers)) flash memory
-effectOf Resume board item s flash memory = apart (keeping (resumed s .session) (item .registers)) flash memory
-effectOf ResumeChanged board item s flash memory = apart (keeping (resumedChanged s .session) (item .registers)) flash memory
-effectOf Malformed board item s flash memory =
-    apart (record { good = false; session = s; registers = item .registers }) flash memory
+effectOf Suspend setup item m = apart (keeping (suspended (m .session) .session) (item .registers)) m
+effectOf Resume setup item m = apart (keeping (resumed (m .session) .session) (item .registers)) m
+effectOf ResumeChanged setup item m = apart (keeping (resumedChanged (m .session) .session) (item .registers)) m
+effectOf Malformed setup item m = apart (record { good = false; session = m .session; registers = item .registers }) m
 
-abbrev pub effect : Board → Item → Session → List ℕ → List ℕ → Effect
-effect board item s flash memory = effectOf (item .kind) board item s flash memory
+abbrev pub effect : Setup → Item → Machine → Effect
+effect setup item m = effectOf (item .kind) setup item m

@@ -4,7 +4,7 @@ use crate::Kind;
 use buffers::fill;
 use mailbox::Answer;
 use mailbox::command;
-use refusals::Board;
+use session::Board;
 use session::Session;
 use session::Suspension;
 use session::Window;
@@ -14,8 +14,9 @@ use session::suspend;
 use units::Blocks;
 ghost use mathlib.Core.Path.{_≡_};
 ghost use lib.ListN.{length};
+ghost use Rattle.session.specs.Machine.{setUp, lent};
 ghost use Rattle.refusals.specs.Refusals.{isWrite};
-ghost use Rattle.script.specs.Effects.{fillAllowed, filled, keeping, afterCommand, effect};
+ghost use Rattle.script.specs.Effects.{fillAllowed, filled, effected, keeping, effect};
 
 // What a record leaves: whether it keeps the rules, the session, and the registers, which are the
 // answer where it is a command.
@@ -33,9 +34,8 @@ pub fn serve(
     flash: &mut [u8],
     memory: &mut [u8],
 ) -> Served
-    ensures { λ r. ⌜ (r ≡ effect board item session (now (flash .entry)) (now (memory .entry)) .served)
-        × (now (flash .exit) ≡ effect board item session (now (flash .entry)) (now (memory .entry)) .flash)
-        × (now (memory .exit) ≡ effect board item session (now (flash .entry)) (now (memory .entry)) .memory) ⌝ }
+    ensures { λ r. ⌜ effected r (now (flash .exit)) (now (memory .exit))
+        ≡ effect (setUp board) item (lent session (now (flash .entry)) (now (memory .entry))) ⌝ }
 {
     let kind = item.kind;
     let registers = item.registers;
@@ -58,7 +58,7 @@ pub fn serve(
 }
 
 fn answered(answer: Answer) -> Served
-    ensures { λ r. ⌜ r ≡ afterCommand answer ⌝ }
+    ensures { λ r. ⌜ r ≡ keeping (answer .session) (answer .registers) ⌝ }
 {
     let session = answer.session;
     let registers = answer.registers;

@@ -1,16 +1,13 @@
-// The bench program over values: a record read and carried out, and what is printed of it.
+// The records of the bench program: one read, and carried out.
 //
 // Every row of bytes, every offset in it, every session and every buffer length gets an answer.
 mod effects;
-mod text;
 
 pub use effects::Served;
 pub use effects::fill_window;
 pub use effects::serve;
 use leb128::Read;
 use leb128::read_at;
-pub use text::count_written;
-pub use text::register_line;
 ghost use mathlib.Core.Path.{_≡_};
 ghost use Prim.Native.Nat.{_≤_};
 ghost use lib.ListN.{replicate};

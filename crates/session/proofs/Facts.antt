@@ -10,7 +10,8 @@ use Rattle.units.specs.Units.{toBytes, roundUp, toBlocks}
 use Rattle.session.specs.declared.Session.{Session}
 use Rattle.session.specs.declared.Window.{Window}
 use Rattle.session.specs.declared.Window.the-variants.{Closed, Read, Write}
-use Rattle.session.specs.Soundness.{sizeSound, sizesSound, activeSound, windowSound, markable, marksSound, sessionSound, sound}
+use Rattle.session.specs.Machine.{Setup}
+use Rattle.session.specs.Soundness.{sizeSound, sizesSound, activeSound, windowSound, markable, marksSound, sessionSound, sound, soundAt}
 
 -- a buffer of whole blocks
 pub record Sized (most length : ℕ) : Type 0 where
@@ -75,6 +76,15 @@ pub refitted : (flash memory : ℕ) (s t : Session) → sound flash memory s ≡
     → sound flash memory t ≡ true
 unfolding sound sessionSound
 refitted flash memory s t e v w m = rw (both (sizesSound flash memory) _ e .0, le-leb (t .version) 2 v, w, m)
+
+-- and with B
+pub refitted-at : (setup : Setup) (flash memory : ℕ) (s t : Session) → soundAt setup flash memory s ≡ true → t .version ≤ 2
+    → windowSound (t .window) (t .first) (t .size) (roundUp flash) (roundUp memory) ≡ true → marksSound (markable (t .window) (t .size)) (t .marks) ≡ true
+    → soundAt setup flash memory t ≡ true
+unfolding soundAt
+refitted-at setup flash memory s t e v w m =
+    let p = both (sound flash memory s) _ e in
+    rw (p .1, refitted flash memory s t (p .0) v w m)
 
 -- and in bytes: the window's part lies in the flash, and its blocks in the window memory
 pub part-within : (flash memory : ℕ) (s : Session) → sound flash memory s ≡ true

@@ -1,11 +1,14 @@
--- The session record: document 01, "Session".
+-- The session record: document 01, "Session". A new field of the session is named in `fresh`, in the setters below and in C's record (crate
+-- board).
 use Prim.Native.Nat.{ℕ, _-_}
-use mathlib.Core.Bool.{false}
+use mathlib.Core.Bool.{Bool, false}
 use mathlib.Core.List.{List}
 use lib.Bits.{bitAnd, bitOr}
 use lib.ListN.{replicate}
 use Rattle.session.specs.declared.Session.{Session}
+use Rattle.session.specs.declared.Window.{Window}
 use Rattle.session.specs.declared.Window.the-variants.{Closed}
+use Rattle.session.specs.declared.Previous.{Previous}
 use Rattle.session.specs.declared.Previous.the-variants.{Absent}
 
 -- the event byte with the bits of a mask set, and with them cleared
@@ -33,16 +36,79 @@ fresh =
       marks = clean;
     }
 
--- the session with its window dropped: no window, first block and size 0, all marks 0
-abbrev pub dropWindow : Session → Session
-dropWindow s =
+-- ---- the session with some of its fields changed: the version
+abbrev pub withVersion : ℕ → Session → Session
+withVersion version s =
+    record {
+      version = version;
+      previous = s .previous;
+      events = s .events;
+      suspended = s .suspended;
+      window = s .window;
+      first = s .first;
+      size = s .size;
+      marks = s .marks;
+    }
+
+-- the previous sequence number
+abbrev pub withPrevious : Previous → Session → Session
+withPrevious previous s =
+    record {
+      version = s .version;
+      previous = previous;
+      events = s .events;
+      suspended = s .suspended;
+      window = s .window;
+      first = s .first;
+      size = s .size;
+      marks = s .marks;
+    }
+
+-- the suspension and the event byte, or the event byte alone
+abbrev pub withAccess : Bool → ℕ → Session → Session
+withAccess suspended events s =
+    record {
+      version = s .version;
+      previous = s .previous;
+      events = events;
+      suspended = suspended;
+      window = s .window;
+      first = s .first;
+      size = s .size;
+      marks = s .marks;
+    }
+
+abbrev pub withEvents : ℕ → Session → Session
+withEvents events s = withAccess (s .suspended) events s
+
+-- the marks
+abbrev pub withMarks : List ℕ → Session → Session
+withMarks marks s =
     record {
       version = s .version;
       previous = s .previous;
       events = s .events;
       suspended = s .suspended;
-      window = Closed;
-      first = 0;
-      size = 0;
+      window = s .window;
+      first = s .first;
+      size = s .size;
+      marks = marks;
+    }
+
+-- another window, with "all marks 0"
+abbrev pub withWindow : Window → ℕ → ℕ → Session → Session
+withWindow window first size s =
+    record {
+      version = s .version;
+      previous = s .previous;
+      events = s .events;
+      suspended = s .suspended;
+      window = window;
+      first = first;
+      size = size;
       marks = clean;
     }
+
+-- no window: first block and size 0, all marks 0
+abbrev pub dropWindow : Session → Session
+dropWindow s = withWindow Closed 0 0 s

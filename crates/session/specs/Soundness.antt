@@ -3,12 +3,14 @@ use Prim.Native.Nat.{ℕ, zero, suc, _+_}
 use mathlib.Core.Bool.{Bool, true, _&&_}
 use mathlib.Core.List.{List, [], _∷_}
 use lib.Dec.{leb, eqb}
+use lib.ListN.{length}
 use Rattle.units.specs.Units.{toBytes, roundUp}
 use Rattle.session.specs.declared.Session.{Session}
+use Rattle.session.specs.Machine.{Setup, Machine}
 use Rattle.session.specs.declared.Window.{Window}
 use Rattle.session.specs.declared.Window.the-variants.{Closed, Read, Write}
 
--- a buffer of so many bytes is "1 to" so many blocks, and "whole blocks"
+-- a length in bytes is "whole blocks", at least 1 and at most so many
 unfoldable pub sizeSound : ℕ → ℕ → Bool
 sizeSound most length = leb 1 (roundUp length) && (leb (roundUp length) most && eqb (toBytes (roundUp length)) length)
 
@@ -49,5 +51,9 @@ unfoldable pub sound : ℕ → ℕ → Session → Bool
 sound flash memory s = sizesSound flash memory && sessionSound (roundUp flash) (roundUp memory) s
 
 -- "B, the window's first LPC block, satisfies B + C <= 65,536"
-unfoldable pub soundAt : ℕ → ℕ → ℕ → Session → Bool
-soundAt lpc flash memory s = sound flash memory s && leb (lpc + roundUp memory) 65536
+unfoldable pub soundAt : Setup → ℕ → ℕ → Session → Bool
+soundAt setup flash memory s = sound flash memory s && leb (setup .lpc + roundUp memory) 65536
+
+-- the same, of what a call is given
+abbrev pub soundIn : Setup → Machine → Bool
+soundIn setup m = soundAt setup (length (m .flash)) (length (m .memory)) (m .session)

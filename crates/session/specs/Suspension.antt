@@ -3,7 +3,7 @@ use Prim.Native.Nat.{ℕ}
 use mathlib.Core.Bool.{Bool, true, false, cond, not}
 use Rattle.session.specs.declared.Session.{Session}
 use Rattle.session.specs.declared.suspension.Suspension.{Suspension}
-use Rattle.session.specs.Record.{setBits, clearBits, dropWindow}
+use Rattle.session.specs.Record.{setBits, clearBits, withAccess, dropWindow}
 
 -- "0x40 flash control lost", "0x02 window reset"
 abbrev pub controlLost : ℕ
@@ -11,20 +11,6 @@ controlLost = 0x40
 
 abbrev pub windowReset : ℕ
 windowReset = 0x02
-
--- the session with another suspension and event byte
-abbrev pub withAccess : Bool → ℕ → Session → Session
-withAccess suspended events s =
-    record {
-      version = s .version;
-      previous = s .previous;
-      events = events;
-      suspended = suspended;
-      window = s .window;
-      first = s .first;
-      size = s .size;
-      marks = s .marks;
-    }
 
 -- a call that has nothing to do "changes nothing and answers no; otherwise they answer yes"
 abbrev pub answer : Bool → Session → Session → Suspension

@@ -1,9 +1,23 @@
-// The session record: what a fresh one holds, when one is sound, and suspend and resume.
+// The session record: what a fresh one holds, its setters and its marks, when one is sound, and suspend and resume.
 //
-// Every record value can be made and gets an answer, also those that no command leaves.
+// Every record value can be made and gets an answer, also those that no command leaves. What the board sets up
+// stands here too, since it is looked at together with the session.
+mod marks;
+mod setters;
 mod soundness;
 mod suspension;
 
+pub use marks::CLEAN;
+pub use marks::DIRTY;
+pub use marks::ERASED;
+pub use marks::mark_erases;
+pub use marks::mark_programs;
+pub use setters::with_access;
+pub use setters::with_marks;
+pub use setters::with_previous;
+pub use setters::with_version;
+pub use setters::with_window;
+pub use setters::without_window;
 pub use soundness::is_sound;
 pub use soundness::is_sound_at;
 pub use suspension::Suspension;
@@ -26,6 +40,13 @@ pub enum Previous {
     Number(u8),
 }
 
+// What a board fixes: the window's first LPC block, and the suggested timeout in seconds.
+pub struct Board {
+    pub lpc: u16,
+    pub timeout: u16,
+}
+
+// A session.
 pub struct Session {
     pub version: u8,
     pub previous: Previous,

@@ -1,4 +1,5 @@
 // When the lent sizes and a session are sound.
+use crate::Board;
 use crate::Session;
 use crate::Window;
 use units::Bytes;
@@ -6,6 +7,7 @@ ghost use mathlib.Core.Path.{_≡_};
 ghost use Prim.Native.Nat.{_<_};
 ghost use mathlib.Core.Bool.{cond};
 ghost use lib.Dec.{leb};
+ghost use Rattle.session.specs.Machine.{setUp};
 ghost use Rattle.session.specs.Soundness.{sound, soundAt, sizeSound, activeSound, windowSound, markable, marksSound, sessionSound};
 
 // The most blocks of a flash and of a window memory, and how far the LPC blocks go.
@@ -31,14 +33,14 @@ pub fn is_sound(session: Session, flash: usize, memory: usize) -> bool
 }
 
 // The same, with B: the window memory ends within the LPC blocks.
-pub fn is_sound_at(session: Session, flash: usize, memory: usize, lpc: u16) -> bool
-    ensures { λ r. ⌜ r ≡ soundAt lpc flash memory session ⌝ }
+pub fn is_sound_at(session: Session, board: Board, flash: usize, memory: usize) -> bool
+    ensures { λ r. ⌜ r ≡ soundAt (setUp board) flash memory session ⌝ }
 {
     if !is_sound(session, flash, memory) {
         return false;
     }
     let memory_blocks = Bytes(memory as u64).blocks().0;
-    (lpc as u64) + (memory_blocks as u64) <= LPC_BLOCKS
+    (board.lpc as u64) + (memory_blocks as u64) <= LPC_BLOCKS
 }
 
 // Whole blocks, at least one and at most so many.

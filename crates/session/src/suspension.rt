@@ -1,6 +1,7 @@
 // Suspend and resume: on any session, sound or not.
 use crate::Session;
-use crate::Window;
+use crate::setters::with_access;
+use crate::setters::without_window;
 ghost use mathlib.Core.Path.{_≡_};
 ghost use Rattle.session.specs.Suspension.{suspended, resumed, resumedChanged};
 
@@ -20,12 +21,9 @@ pub fn suspend(session: Session) -> Suspension
             session,
         };
     }
-    let mut next = session;
-    next.suspended = true;
-    next.events = session.events | 0x40;
     Suspension {
         done: true,
-        session: next,
+        session: with_access(session, true, session.events | 0x40),
     }
 }
 
@@ -39,12 +37,9 @@ pub fn resume(session: Session) -> Suspension
             session,
         };
     }
-    let mut next = session;
-    next.suspended = false;
-    next.events = session.events & 0xbf;
     Suspension {
         done: true,
-        session: next,
+        session: with_access(session, false, session.events & 0xbf),
     }
 }
 
@@ -58,18 +53,9 @@ pub fn resume_changed(session: Session) -> Suspension
             session,
         };
     }
-    let previous = session.previous;
+    let dropped = without_window(session);
     Suspension {
         done: true,
-        session: Session {
-            version: session.version,
-            previous,
-            events: session.events & 0xbf | 0x02,
-            suspended: false,
-            window: Window::Closed,
-            first: 0,
-            size: 0,
-            marks: [0; 64],
-        },
+        session: with_access(dropped, false, session.events & 0xbf | 0x02),
     }
 }

@@ -1,5 +1,7 @@
 mod Decimal
 mod FlashLine
+mod Lines
+mod Others
 mod Runs
 mod Turns
 mod Wholes

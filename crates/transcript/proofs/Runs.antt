@@ -9,8 +9,7 @@ use lib.Dec.{ltb}
 use lib.ListN.{length}
 use borrow.Author.Tests.{lt-ltb, le-ltb, ltb-true, ltb-false}
 use Rattle.units.proofs.Cases.{decided}
-use Rattle.session.specs.declared.Session.{Session}
-use Rattle.refusals.specs.declared.Board.{Board}
+use Rattle.session.specs.Machine.{Setup, Machine}
 use Rattle.script.specs.declared.Item.{Item}
 use Rattle.script.specs.Records.{recordAt}
 use Rattle.script.specs.Effects.{Effect, effect}
@@ -18,93 +17,93 @@ use Rattle.script.proofs.Progress.{moves-on}
 use Rattle.transcript.specs.Printing.{answerText, badLine}
 use Rattle.transcript.specs.Run.{Ran, ended, after, turned, runFrom}
 
-module _ (board : Board) (input : List ℕ) where
+module _ (setup : Setup) (input : List ℕ) where
   -- a run at the end of its input
-  run-none : (turns at : ℕ) (s : Session) (flash memory : List ℕ) → length input ≤ at → runFrom turns board input at s flash memory ≡ ended [] flash
+  run-none : (turns at : ℕ) (m : Machine) → length input ≤ at → runFrom turns setup input at m ≡ ended [] (m .flash)
   unfolding runFrom
-  run-none zero at s flash memory h = refl
-  run-none (suc turns) at s flash memory h = rw (le-ltb at (length input) h)
+  run-none zero at m h = refl
+  run-none (suc turns) at m h = rw (le-ltb at (length input) h)
 
   -- a record, and the rest
-  module _ (turns at : ℕ) (s : Session) (flash memory : List ℕ) (item : Item) (read : item ≡ recordAt input at) (here : at < length input) where
+  module _ (turns at : ℕ) (m : Machine) (item : Item) (read : item ≡ recordAt input at) (here : at < length input) where
     abbrev e : Effect
-    e = effect board item s flash memory
+    e = effect setup item m
 
     abbrev goes : Ran
-    goes = after (answerText (item .kind) (e .served .registers)) (runFrom turns board input (item .next) (e .served .session) (e .flash) (e .memory))
+    goes = after (answerText (item .kind) (e .registers)) (runFrom turns setup input (item .next) (e .machine))
 
-    run-turn : runFrom (suc turns) board input at s flash memory ≡ cond (e .served .good) goes (ended (badLine at) (e .flash))
+    run-turn : runFrom (suc turns) setup input at m ≡ cond (e .good) goes (ended (badLine at) (e .machine .flash))
     unfolding runFrom
     run-turn =
-        ap (λ (b : Bool). cond b (turned (runFrom turns board input (recordAt input at .next)) at (recordAt input at .kind) (effect board (recordAt input at) s flash memory)) (ended [] flash)) (lt-ltb at (length input) here)
-        ∙ ap (λ (i : Item). turned (runFrom turns board input (i .next)) at (i .kind) (effect board i s flash memory)) (sym read)
+        ap (λ (b : Bool). cond b (turned (runFrom turns setup input (recordAt input at .next)) at (recordAt input at .kind) (effect setup (recordAt input at) m)) (ended [] (m .flash))) (lt-ltb at (length input) here)
+        ∙ ap (λ (i : Item). turned (runFrom turns setup input (i .next)) at (i .kind) (effect setup i m)) (sym read)
 
-    run-good : e .served .good ≡ true → runFrom (suc turns) board input at s flash memory ≡ goes
-    run-good good = run-turn ∙ ap (λ (b : Bool). cond b goes (ended (badLine at) (e .flash))) good
+    run-good : e .good ≡ true → runFrom (suc turns) setup input at m ≡ goes
+    run-good good = run-turn ∙ ap (λ (b : Bool). cond b goes (ended (badLine at) (e .machine .flash))) good
 
-    run-bad : e .served .good ≡ false → runFrom (suc turns) board input at s flash memory ≡ ended (badLine at) (e .flash)
-    run-bad bad = run-turn ∙ ap (λ (b : Bool). cond b goes (ended (badLine at) (e .flash))) bad
+    run-bad : e .good ≡ false → runFrom (suc turns) setup input at m ≡ ended (badLine at) (e .machine .flash)
+    run-bad bad = run-turn ∙ ap (λ (b : Bool). cond b goes (ended (badLine at) (e .machine .flash))) bad
 
   -- a turn more, where the rest is the same
-  turn-alike : (m n at : ℕ) (s : Session) (flash memory : List ℕ) → at < length input
-      → ((next : ℕ) (s : Session) (flash memory : List ℕ) → at < next → runFrom m board input next s flash memory ≡ runFrom n board input next s flash memory)
-      → runFrom (suc m) board input at s flash memory ≡ runFrom (suc n) board input at s flash memory
-  turn-alike m n at s flash memory h same =
+  turn-alike : (k n at : ℕ) (m : Machine) → at < length input
+      → ((next : ℕ) (m : Machine) → at < next → runFrom k setup input next m ≡ runFrom n setup input next m)
+      → runFrom (suc k) setup input at m ≡ runFrom (suc n) setup input at m
+  turn-alike k n at m h same =
       ⊎-elim
-      (λ (g : e .served .good ≡ true).
-      run-good m at s flash memory item refl h g
-      ∙ ap (after (answerText (item .kind) (e .served .registers))) (same (item .next) (e .served .session) (e .flash) (e .memory) (moves-on input at item refl board s flash memory g))
-      ∙ sym (run-good n at s flash memory item refl h g))
-      (λ (g : e .served .good ≡ false). run-bad m at s flash memory item refl h g ∙ sym (run-bad n at s flash memory item refl h g))
-      (decided (e .served .good))
+      (λ (g : e .good ≡ true).
+      run-good k at m item refl h g
+      ∙ ap (after (answerText (item .kind) (e .registers))) (same (item .next) (e .machine) (moves-on input at item refl setup m g))
+      ∙ sym (run-good n at m item refl h g))
+      (λ (g : e .good ≡ false). run-bad k at m item refl h g ∙ sym (run-bad n at m item refl h g))
+      (decided (e .good))
     where
       item : Item
       item = recordAt input at
 
       e : Effect
-      e = effect board item s flash memory
+      e = effect setup item m
 
   -- a record has a byte at least, so that as many turns as bytes are enough
-  enough : (m n at : ℕ) (s : Session) (flash memory : List ℕ) → length input ≤ at + m → length input ≤ at + n
-      → runFrom m board input at s flash memory ≡ runFrom n board input at s flash memory
-  enough zero n at s flash memory p q = run-none zero at s flash memory (omega arith) ∙ sym (run-none n at s flash memory (omega arith))
-  enough (suc m) zero at s flash memory p q =
-      run-none (suc m) at s flash memory (omega arith) ∙ sym (run-none zero at s flash memory (omega arith))
-  enough (suc m) (suc n) at s flash memory p q =
+  enough : (k n at : ℕ) (m : Machine) → length input ≤ at + k → length input ≤ at + n
+      → runFrom k setup input at m ≡ runFrom n setup input at m
+  enough zero n at m p q = run-none zero at m (omega arith) ∙ sym (run-none n at m (omega arith))
+  enough (suc k) zero at m p q =
+      run-none (suc k) at m (omega arith) ∙ sym (run-none zero at m (omega arith))
+  enough (suc k) (suc n) at m p q =
       ⊎-elim
       (λ (t : ltb at (length input) ≡ true).
-      turn-alike m n at s flash memory (ltb-true at (length input) t)
-      (λ next s′ flash′ memory′ past. enough m n next s′ flash′ memory′ (omega (arith, past)) (omega (arith, past))))
+      turn-alike k n at m (ltb-true at (length input) t)
+      (λ next m′ past. enough k n next m′ (omega (arith, past)) (omega (arith, past))))
       (λ (t : ltb at (length input) ≡ false).
-      run-none (suc m) at s flash memory (ltb-false at (length input) t) ∙ sym (run-none (suc n) at s flash memory (ltb-false at (length input) t)))
+      run-none (suc k) at m (ltb-false at (length input) t) ∙ sym (run-none (suc n) at m (ltb-false at (length input) t)))
       (decided (ltb at (length input)))
 
   -- what is left of a run
-  abbrev pub restFrom : ℕ → Session → List ℕ → List ℕ → Ran
-  restFrom at s flash memory = runFrom (length input - at) board input at s flash memory
+  abbrev pub restFrom : ℕ → Machine → Ran
+  restFrom at m = runFrom (length input - at) setup input at m
 
-  pub rest-none : (at : ℕ) (s : Session) (flash memory : List ℕ) → length input ≤ at → restFrom at s flash memory ≡ ended [] flash
-  rest-none at s flash memory h = run-none (length input - at) at s flash memory h
+  pub rest-none : (at : ℕ) (m : Machine) → length input ≤ at → restFrom at m ≡ ended [] (m .flash)
+  rest-none at m h = run-none (length input - at) at m h
 
-  pub rest-all : (s : Session) (flash memory : List ℕ) → restFrom 0 s flash memory ≡ runFrom (length input) board input 0 s flash memory
-  rest-all s flash memory = enough (length input - 0) (length input) 0 s flash memory (omega arith) (omega arith)
+  pub rest-all : (m : Machine) → restFrom 0 m ≡ runFrom (length input) setup input 0 m
+  rest-all m = enough (length input - 0) (length input) 0 m (omega arith) (omega arith)
 
   one-turn : (at : ℕ) → at < length input → length input - at ≡ suc (length input - (at + 1))
   one-turn at h = omega arith
 
-  pub rest-good : (at : ℕ) (s : Session) (flash memory : List ℕ) (item : Item) → item ≡ recordAt input at → at < length input
-      → effect board item s flash memory .served .good ≡ true
-      → restFrom at s flash memory
-      ≡ after (answerText (item .kind) (effect board item s flash memory .served .registers))
-      (restFrom (item .next) (effect board item s flash memory .served .session) (effect board item s flash memory .flash) (effect board item s flash memory .memory))
-  rest-good at s flash memory item e h g =
-      let past = moves-on input at item e board s flash memory g in
-      ap (λ (n : ℕ). runFrom n board input at s flash memory) (one-turn at h)
-      ∙ run-good (length input - (at + 1)) at s flash memory item e h g
-      ∙ ap (after (answerText (item .kind) (effect board item s flash memory .served .registers))) (enough (length input - (at + 1)) (length input - item .next) (item .next) (effect board item s flash memory .served .session) (effect board item s flash memory .flash) (effect board item s flash memory .memory) (omega (arith, past)) (omega (arith, past)))
+  pub rest-good : (at : ℕ) (m : Machine) (item : Item) → item ≡ recordAt input at → at < length input
+      → effect setup item m .good ≡ true
+      → restFrom at m
+      ≡ after (answerText (item .kind) (effect setup item m .registers))
+      (restFrom (item .next) (effect setup item m .machine))
+  rest-good at m item e h g =
+      let past = moves-on input at item e setup m g in
+      ap (λ (n : ℕ). runFrom n setup input at m) (one-turn at h)
+      ∙ run-good (length input - (at + 1)) at m item e h g
+      ∙ ap (after (answerText (item .kind) (effect setup item m .registers))) (enough (length input - (at + 1)) (length input - item .next) (item .next) (effect setup item m .machine) (omega (arith, past)) (omega (arith, past)))
 
-  pub rest-bad : (at : ℕ) (s : Session) (flash memory : List ℕ) (item : Item) → item ≡ recordAt input at → at < length input
-      → effect board item s flash memory .served .good ≡ false
-      → restFrom at s flash memory ≡ ended (badLine at) (effect board item s flash memory .flash)
-  rest-bad at s flash memory item e h g =
-      ap (λ (n : ℕ). runFrom n board input at s flash memory) (one-turn at h) ∙ run-bad (length input - (at + 1)) at s flash memory item e h g
+  pub rest-bad : (at : ℕ) (m : Machine) (item : Item) → item ≡ recordAt input at → at < length input
+      → effect setup item m .good ≡ false
+      → restFrom at m ≡ ended (badLine at) (effect setup item m .machine .flash)
+  rest-bad at m item e h g =
+      ap (λ (n : ℕ). runFrom n setup input at m) (one-turn at h) ∙ run-bad (length input - (at + 1)) at m item e h g

@@ -8,7 +8,7 @@ use Rattle.buffers.specs.Ranges.{range}
 use Rattle.units.specs.Units.{blockBytes, toBytes}
 use Rattle.script.specs.declared.Kind.{Kind}
 use Rattle.script.specs.declared.Kind.the-variants.{Command, Fill, Suspend, Resume, ResumeChanged, Malformed}
-use Rattle.script.specs.Text.{registerLine, otherThanFF}
+use Rattle.transcript.specs.Text.{registerLine, otherThanFF}
 
 -- bytes written into a text from a place on, each where there is room
 unfoldable pub written : ℕ → List ℕ → List ℕ → List ℕ

@@ -5,9 +5,8 @@ use mathlib.Core.List.{List, [], _++_}
 use lib.Dec.{ltb}
 use lib.ListN.{length, replicate}
 use Rattle.units.specs.Units.{toBytes}
-use Rattle.session.specs.declared.Session.{Session}
+use Rattle.session.specs.Machine.{Setup, setUp, Machine, lent}
 use Rattle.session.specs.Record.{fresh}
-use Rattle.refusals.specs.declared.Board.{Board}
 use Rattle.script.specs.declared.Kind.{Kind}
 use Rattle.script.specs.Records.{recordAt}
 use Rattle.script.specs.Effects.{Effect, effect}
@@ -26,23 +25,23 @@ after text rest = ended (text ++ rest .text) (rest .flash)
 
 -- a record, and the rest of the run: "A record that breaks these rules prints `bad input at N`, N the offset of its first byte, .., and ends
 -- the run"
-abbrev pub turned : (Session → List ℕ → List ℕ → Ran) → ℕ → Kind → Effect → Ran
+abbrev pub turned : (Machine → Ran) → ℕ → Kind → Effect → Ran
 turned rest at kind e =
-    cond (e .served .good)
-    (after (answerText kind (e .served .registers)) (rest (e .served .session) (e .flash) (e .memory)))
-    (ended (badLine at) (e .flash))
+    cond (e .good)
+    (after (answerText kind (e .registers)) (rest (e .machine)))
+    (ended (badLine at) (e .machine .flash))
 
 -- the records from an offset on, at most so many
-unfoldable pub runFrom : ℕ → Board → List ℕ → ℕ → Session → List ℕ → List ℕ → Ran
-runFrom zero board input at s flash memory = ended [] flash
-runFrom (suc turns) board input at s flash memory =
+unfoldable pub runFrom : ℕ → Setup → List ℕ → ℕ → Machine → Ran
+runFrom zero setup input at m = ended [] (m .flash)
+runFrom (suc turns) setup input at m =
     cond (ltb at (length input))
-    (turned (runFrom turns board input (recordAt input at .next)) at (recordAt input at .kind) (effect board (recordAt input at) s flash memory))
-    (ended [] flash)
+    (turned (runFrom turns setup input (recordAt input at .next)) at (recordAt input at .kind) (effect setup (recordAt input at) m))
+    (ended [] (m .flash))
 
 -- "It has S = 4, flash all FF, C = 2, B = 16, T = 8, a fresh session"
-abbrev pub bench : Board
-bench = record { lpc = 16; timeout = 8 }
+abbrev pub bench : Setup
+bench = setUp (record { lpc = 16; timeout = 8 })
 
 unfoldable pub blank : ℕ → List ℕ
 blank blocks = replicate (toBytes blocks) 0xff
@@ -50,7 +49,7 @@ blank blocks = replicate (toBytes blocks) 0xff
 -- all records: each has a byte at least, so there are no more than bytes. The window memory begins as FF, which nothing shows: a create
 -- copies over what a window has
 abbrev pub ran : List ℕ → Ran
-ran input = runFrom (length input) bench input 0 fresh (blank 4) (blank 2)
+ran input = runFrom (length input) bench input 0 (lent fresh (blank 4) (blank 2))
 
 -- "Standard input, at most 16,384 bytes"; "Longer input prints only `too long`"
 unfoldable pub transcript : List ℕ → List ℕ

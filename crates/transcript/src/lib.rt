@@ -2,20 +2,22 @@
 //
 // Every input and every length of the text's buffer gets an answer.
 mod printing;
+mod text;
 
 use printing::put;
 use printing::put_answer;
 use printing::put_bad;
 use printing::put_flash;
-use refusals::Board;
 use script::read_record;
 use script::serve;
+use session::Board;
 use session::new_session;
 ghost use mathlib.Core.Path.{_≡_};
 ghost use Prim.Native.Nat.{_≤_};
 ghost use lib.ListN.{length};
 ghost use Rattle.transcript.specs.Printing.{written};
 ghost use Rattle.transcript.specs.Run.{bench, runFrom, transcript};
+ghost use Rattle.session.specs.Machine.{lent};
 ghost use Rattle.session.specs.Record.{fresh};
 
 // The most bytes of input.
@@ -31,6 +33,7 @@ pub fn run(input: &[u8], text: &mut [u8]) -> usize
     if MOST_INPUT < input.len() {
         return put(text, 0, b"too long\n");
     }
+    // four blocks and two: an array's length is no call, so the proof holds these to the conversion
     let mut flash = [0xffu8; 16384];
     let mut memory = [0xffu8; 8192];
     let end = run_records(input, &mut flash, &mut memory, text);
@@ -40,9 +43,9 @@ pub fn run(input: &[u8], text: &mut [u8]) -> usize
 // Runs the records, up to the first that breaks a rule, on a fresh session.
 fn run_records(input: &[u8], flash: &mut [u8], memory: &mut [u8], text: &mut [u8]) -> usize
     requires { ⌜ length (now input) ≤ 16384 ⌝ }
-    ensures { λ r. ⌜ (r ≡ length (runFrom (length (now (input .entry))) bench (now (input .entry)) 0 fresh (now (flash .entry)) (now (memory .entry)) .text))
-        × (now (text .exit) ≡ written 0 (runFrom (length (now (input .entry))) bench (now (input .entry)) 0 fresh (now (flash .entry)) (now (memory .entry)) .text) (now (text .entry)))
-        × (now (flash .exit) ≡ runFrom (length (now (input .entry))) bench (now (input .entry)) 0 fresh (now (flash .entry)) (now (memory .entry)) .flash)
+    ensures { λ r. ⌜ (r ≡ length (runFrom (length (now (input .entry))) bench (now (input .entry)) 0 (lent fresh (now (flash .entry)) (now (memory .entry))) .text))
+        × (now (text .exit) ≡ written 0 (runFrom (length (now (input .entry))) bench (now (input .entry)) 0 (lent fresh (now (flash .entry)) (now (memory .entry))) .text) (now (text .entry)))
+        × (now (flash .exit) ≡ runFrom (length (now (input .entry))) bench (now (input .entry)) 0 (lent fresh (now (flash .entry)) (now (memory .entry))) .flash)
         × (r ≤ 786432) ⌝ }
 {
     let board = Board {

@@ -1,13 +1,13 @@
 // Bytes, numbers and lines put into a text.
+use crate::text::count_written;
+use crate::text::register_line;
 use script::Kind;
-use script::count_written;
-use script::register_line;
+use units::BLOCK;
+use units::Blocks;
 ghost use mathlib.Core.Path.{_≡_};
 ghost use Prim.Native.Nat.{_+_, _≤_, _<_};
 ghost use lib.ListN.{length};
 ghost use Rattle.transcript.specs.Printing.{written, decimal, badLine, isCommand, answerText, countText, flashLine};
-
-const BLOCK: usize = units::BLOCK as usize;
 
 // Puts bytes from a place on, each where there is room, and answers the place past them.
 pub(crate) fn put(text: &mut [u8], at: usize, part: &[u8]) -> usize
@@ -75,13 +75,13 @@ fn is_command(kind: Kind) -> bool
 }
 
 // Puts the count of one block, after a space.
-fn put_count(text: &mut [u8], at: usize, flash: &[u8], block: usize) -> usize
-    requires { ⌜ (at ≤ 900000) × (block < 4) × (length (now flash) ≡ 16384) ⌝ }
-    ensures { λ r. ⌜ (r ≡ at + length (countText block (now (flash .entry))))
-        × (now (text .exit) ≡ written at (countText block (now (flash .entry))) (now (text .entry))) × (r ≤ at + 21) ⌝ }
+fn put_count(text: &mut [u8], at: usize, flash: &[u8], block: Blocks) -> usize
+    requires { ⌜ (at ≤ 900000) × (block .0 < 4) × (length (now flash) ≡ 16384) ⌝ }
+    ensures { λ r. ⌜ (r ≡ at + length (countText (block .0) (now (flash .entry))))
+        × (now (text .exit) ≡ written at (countText (block .0) (now (flash .entry))) (now (text .entry))) × (r ≤ at + 21) ⌝ }
 {
-    let start = block * BLOCK;
-    let end = start + BLOCK;
+    let start = block.bytes().0 as usize;
+    let end = start + BLOCK as usize;
     let number = put(text, at, b" ");
     put_decimal(text, number, count_written(&flash[start..end]))
 }
@@ -93,9 +93,9 @@ pub(crate) fn put_flash(text: &mut [u8], at: usize, flash: &[u8]) -> usize
         × (now (text .exit) ≡ written at (flashLine 4 (now (flash .entry))) (now (text .entry))) × (r ≤ at + 90) ⌝ }
 {
     let mut end = put(text, at, b"flash");
-    let mut block = 0;
+    let mut block: u32 = 0;
     while block < 4 {
-        end = put_count(text, end, flash, block);
+        end = put_count(text, end, flash, Blocks(block));
         block += 1;
     }
     put(text, end, b"\n")

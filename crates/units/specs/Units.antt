@@ -9,6 +9,10 @@ blockBytes = 4096
 abbrev pub toBytes : ℕ → ℕ
 toBytes b = b * blockBytes
 
+-- the block in which the byte at an offset lies
+abbrev pub blockHolding : ℕ → ℕ
+blockHolding x = x / blockBytes
+
 -- "L is rounded up to k blocks": the fewest blocks that hold n bytes
 abbrev pub roundUp : ℕ → ℕ
 roundUp n = (n + (blockBytes - 1)) / blockBytes

@@ -44,14 +44,15 @@ use denote.Triple.Clauses.{ensured, lasts}
 use denote.Triple.Table.{entered, cited}
 use denote.Triple.Walked.{says, needs, Stays, stay-ref, stay-dropped, gave-slice, walkOf, AllGo, goes-ref, goes-dropped, goes-gave-slice, Walks, ends-at, walked, walk-meets}
 use denote.Exit.{yes}
-use Rattle.mailbox.specs.Commands.{Outcome}
+use Rattle.session.specs.Machine.{setUp, lent}
+use Rattle.mailbox.specs.Commands.{outcome}
 use Rattle.mailbox.specs.Mediator.{mediate}
 use Rattle.session.specs.declared.Session.{Session}
 use Rattle.session.proofs.Session as Session-t
 use Rattle.session.proofs.Session.Laws as Session-l
-use Rattle.refusals.specs.declared.Board.{Board}
-use Rattle.refusals.proofs.Board as Board-t
-use Rattle.refusals.proofs.Board.Laws as Board-l
+use Rattle.session.specs.declared.Board.{Board}
+use Rattle.session.proofs.Board as Board-t
+use Rattle.session.proofs.Board.Laws as Board-l
 use Rattle.mailbox.specs.declared.Answer.{Answer}
 use Rattle.mailbox.proofs.Answer as Answer-t
 use Rattle.mailbox.proofs.Answer.Laws as Answer-l
@@ -107,7 +108,7 @@ module _ {M : Type 1} (𝓤 : URA M) (H : Heap 𝓤) (A : Atoms 𝓤) (W : Given
 
   -- what `command` ensures
   abbrev Ensures : Answer → List ℕ → List ℕ → Type 0
-  Ensures r zs₃ zs₄ = (r ≡ mediate h₂ h₀ h₁ (h₃ .now) (h₄ .now) .answer) × (zs₃ ≡ mediate h₂ h₀ h₁ (h₃ .now) (h₄ .now) .flash) × (zs₄ ≡ mediate h₂ h₀ h₁ (h₃ .now) (h₄ .now) .memory)
+  Ensures r zs₃ zs₄ = outcome r zs₃ zs₄ ≡ mediate (setUp h₂) h₁ (lent h₀ (h₃ .now) (h₄ .now))
 
   -- the end: [obs 0; borrow 0; κ₀'s token; lent; last 3; last 4]
   exits : (r : Answer) (zs₃ zs₄ : List ℕ) → Ensures r zs₃ zs₄ → length zs₃ ≡ length (h₃ .now) → length zs₄ ≡ length (h₄ .now) → Is Reply-t.the-row (reply r) (LL.val Reply-t.the-type Reply-l.the-laws (reply r) ∷ [])
@@ -115,7 +116,7 @@ module _ {M : Type 1} (𝓤 : URA M) (H : Heap 𝓤) (A : Atoms 𝓤) (W : Given
   exits r zs₃ zs₄ e long₃ long₄ is =
       qed W (‵ (fobs γ₀ (Session-t.the-row .coded .code (r .session))) ∷ ‵ (fbor κ₀ (Body (mem Session-t.the-row) b₀ o₀ γ₀)) ∷ ‵ (flft κ₀ q₀) ∷ (‵ (flft κ₁ q₁) ⊛ ‵ (flft κ₂ q₂) ⊛ ‵ ftrue) ∷ ‵ (finally u8 (h₃ .name) zs₃) ∷ ‵ (finally u8 (h₄ .name) zs₄) ∷ []) ∵
       suffices ! _ (ends-at 𝓤 H A entry.ended stayed (entry.clauses 𝓤 H A at-mem run) W (((κ₀, (κ₁, (κ₂, tt))), (q₀, (q₁, (q₂, tt))), tt, a, at), tt) (LL.val Reply-t.the-type Reply-l.the-laws (reply r)) (reply r) ((r .session), (tt, (tt, (zs₃, (zs₄, tt))))) (tt, (tt, (tt, (long₃, (long₄, tt)))))) $
-      says ! (ap (λ (y : Answer). y .session) (e .0), ap (λ (y : Answer). y .registers) (e .0), ap (λ (y : Answer). y .actions) (e .0), e .1, e .2) $
+      says ! (e) $
       move ! (3 ∷ []) $ split ! $ move ! (1 ∷ []) $ split ! $ join ! $ move ! (1 ∷ 0 ∷ []) $ join ! $ move ! (3 ∷ 0 ∷ []) $ join ! $ frame ! $ nothing ! $ move ! (4 ∷ 0 ∷ []) $ fjoin ! $ move ! (3 ∷ 0 ∷ []) $ fjoin ! $
       nothing ! $ fjoin ! $ nothing ! $ fjoin ! $ move ! (1 ∷ 2 ∷ []) $ feqI ! (List Val) (vptr b₀ o₀ ∷ []) (vptr b₀ o₀ ∷ []) refl $ fjoin3 ! $ fjoin ! $
       owned ! Reply-t.the-row (Is Reply-t.the-row) (LL.makes Reply-t.the-type Reply-l.the-plain 𝓤 H A) (reply r) _ is $ move ! (1 ∷ 0 ∷ []) $ done !

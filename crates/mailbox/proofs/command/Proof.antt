@@ -2,12 +2,14 @@
 use mathlib.Core.Path.{sym, ap, _∙_}
 use mathlib.Core.List.{[]}
 use borrow.Author.Needs.{needs}
+use Rattle.session.specs.Machine.{setUp, lent}
 use Rattle.refusals.specs.declared.Reason.{Reason}
 use Rattle.refusals.specs.declared.Reason.the-variants.{Accepted, System, Repeated, Unknown, Suspended, Windowless, Argument}
 use Rattle.refusals.specs.Refusals.{codeFor}
-use Rattle.mailbox.specs.Commands.{Outcome, answered}
-use Rattle.mailbox.specs.Mediator.{numbered, answerTo}
-use Rattle.mailbox.proofs.Mediating.{mediate-as, argument-memory}
+use Rattle.mailbox.specs.Commands.{leaving, answered, numbered}
+use Rattle.mailbox.specs.Mediator.{answerTo}
+use Rattle.mailbox.specs.declared.Answer.{Answer}
+use Rattle.mailbox.proofs.Mediating.{mediate-as}
 use Rattle.mailbox.proofs.command.Statement.{statement}
 use Rattle.mailbox.proofs.command.Tie as tie
 
@@ -67,44 +69,44 @@ returns : tie.Need-returns
 unfolding answerTo
 returns c =
     let a = c .before .before .before .before .before .before .before .before .before .before .before .before .args in
-    let e = mediate-as (a .board) (a .session) (a .registers) (a .flash .now) (a .memory .now) Accepted (sym (c .before .before .before .before .before .before .before .before .before .reason-for .ensures) ∙ c .before .before .before .before .before .before .before .enum-told .given .1) in
+    let e = mediate-as (setUp (a .board)) (a .registers) (lent (a .session) (a .flash .now) (a .memory .now)) Accepted (sym (c .before .before .before .before .before .before .before .before .before .reason-for .ensures) ∙ c .before .before .before .before .before .before .before .enum-told .given .1) in
     let call = c .before .before .before .before .serve in
-    (call .ensures .0 ∙ ap (λ (r : Outcome). r .answer) (sym e), call .ensures .1 ∙ ap (λ (r : Outcome). r .flash) (sym e), call .ensures .2 ∙ ap (λ (r : Outcome). r .memory) (sym e))
+    call .ensures ∙ sym e
 
 returns-2 : tie.Need-returns-2
 unfolding answerTo
 returns-2 c =
     let a = c .before .before .before .before .before .before .args in
-    let e = mediate-as (a .board) (a .session) (a .registers) (a .flash .now) (a .memory .now) System (sym (c .before .before .before .reason-for .ensures) ∙ c .before .enum-told2 .given .1) in
-    (c .refuse .ensures ∙ ap (λ (r : Outcome). r .answer) (sym e), ap (λ (r : Outcome). r .flash) (sym e), ap (λ (r : Outcome). r .memory) (sym e))
+    let e = mediate-as (setUp (a .board)) (a .registers) (lent (a .session) (a .flash .now) (a .memory .now)) System (sym (c .before .before .before .reason-for .ensures) ∙ c .before .enum-told2 .given .1) in
+    ap (λ (r : Answer). leaving r (lent (a .session) (a .flash .now) (a .memory .now))) (c .refuse .ensures) ∙ sym e
 
 returns-3 : tie.Need-returns-3
 unfolding answerTo
 returns-3 c =
     let a = c .before .before .before .before .before .before .args in
-    let e = mediate-as (a .board) (a .session) (a .registers) (a .flash .now) (a .memory .now) Repeated (sym (c .before .before .before .reason-for .ensures) ∙ c .before .enum-told3 .given .1) in
-    (c .refuse-numbered .ensures ∙ ap (λ (r : Reason). answered (numbered (a .session) (a .registers)) (a .registers) (codeFor (a .session .version) r) [] 0) (c .before .enum-told3 .given .1) ∙ ap (λ (r : Outcome). r .answer) (sym e), ap (λ (r : Outcome). r .flash) (sym e), ap (λ (r : Outcome). r .memory) (sym e))
+    let e = mediate-as (setUp (a .board)) (a .registers) (lent (a .session) (a .flash .now) (a .memory .now)) Repeated (sym (c .before .before .before .reason-for .ensures) ∙ c .before .enum-told3 .given .1) in
+    ap (λ (r : Answer). leaving r (lent (a .session) (a .flash .now) (a .memory .now))) (c .refuse-numbered .ensures ∙ ap (λ (r : Reason). answered (numbered (a .session) (a .registers)) (a .registers) (codeFor (a .session .version) r) [] 0) (c .before .enum-told3 .given .1)) ∙ sym e
 
 returns-4 : tie.Need-returns-4
 unfolding answerTo
 returns-4 c =
     let a = c .before .before .before .before .before .before .args in
-    let e = mediate-as (a .board) (a .session) (a .registers) (a .flash .now) (a .memory .now) Unknown (sym (c .before .before .before .reason-for .ensures) ∙ c .before .enum-told4 .given .1) in
-    (c .refuse-numbered2 .ensures ∙ ap (λ (r : Reason). answered (numbered (a .session) (a .registers)) (a .registers) (codeFor (a .session .version) r) [] 0) (c .before .enum-told4 .given .1) ∙ ap (λ (r : Outcome). r .answer) (sym e), ap (λ (r : Outcome). r .flash) (sym e), ap (λ (r : Outcome). r .memory) (sym e))
+    let e = mediate-as (setUp (a .board)) (a .registers) (lent (a .session) (a .flash .now) (a .memory .now)) Unknown (sym (c .before .before .before .reason-for .ensures) ∙ c .before .enum-told4 .given .1) in
+    ap (λ (r : Answer). leaving r (lent (a .session) (a .flash .now) (a .memory .now))) (c .refuse-numbered2 .ensures ∙ ap (λ (r : Reason). answered (numbered (a .session) (a .registers)) (a .registers) (codeFor (a .session .version) r) [] 0) (c .before .enum-told4 .given .1)) ∙ sym e
 
 returns-5 : tie.Need-returns-5
 unfolding answerTo
 returns-5 c =
     let a = c .before .before .before .before .before .before .args in
-    let e = mediate-as (a .board) (a .session) (a .registers) (a .flash .now) (a .memory .now) Suspended (sym (c .before .before .before .reason-for .ensures) ∙ c .before .enum-told5 .given .1) in
-    (c .refuse-numbered3 .ensures ∙ ap (λ (r : Reason). answered (numbered (a .session) (a .registers)) (a .registers) (codeFor (a .session .version) r) [] 0) (c .before .enum-told5 .given .1) ∙ ap (λ (r : Outcome). r .answer) (sym e), ap (λ (r : Outcome). r .flash) (sym e), ap (λ (r : Outcome). r .memory) (sym e))
+    let e = mediate-as (setUp (a .board)) (a .registers) (lent (a .session) (a .flash .now) (a .memory .now)) Suspended (sym (c .before .before .before .reason-for .ensures) ∙ c .before .enum-told5 .given .1) in
+    ap (λ (r : Answer). leaving r (lent (a .session) (a .flash .now) (a .memory .now))) (c .refuse-numbered3 .ensures ∙ ap (λ (r : Reason). answered (numbered (a .session) (a .registers)) (a .registers) (codeFor (a .session .version) r) [] 0) (c .before .enum-told5 .given .1)) ∙ sym e
 
 returns-6 : tie.Need-returns-6
 unfolding answerTo
 returns-6 c =
     let a = c .before .before .before .before .before .before .args in
-    let e = mediate-as (a .board) (a .session) (a .registers) (a .flash .now) (a .memory .now) Windowless (sym (c .before .before .before .reason-for .ensures) ∙ c .before .enum-told6 .given .1) in
-    (c .refuse-numbered4 .ensures ∙ ap (λ (r : Reason). answered (numbered (a .session) (a .registers)) (a .registers) (codeFor (a .session .version) r) [] 0) (c .before .enum-told6 .given .1) ∙ ap (λ (r : Outcome). r .answer) (sym e), ap (λ (r : Outcome). r .flash) (sym e), ap (λ (r : Outcome). r .memory) (sym e))
+    let e = mediate-as (setUp (a .board)) (a .registers) (lent (a .session) (a .flash .now) (a .memory .now)) Windowless (sym (c .before .before .before .reason-for .ensures) ∙ c .before .enum-told6 .given .1) in
+    ap (λ (r : Answer). leaving r (lent (a .session) (a .flash .now) (a .memory .now))) (c .refuse-numbered4 .ensures ∙ ap (λ (r : Reason). answered (numbered (a .session) (a .registers)) (a .registers) (codeFor (a .session .version) r) [] 0) (c .before .enum-told6 .given .1)) ∙ sym e
 
 same-length-3 : tie.Need-same-length-3
 same-length-3 c = search needs
@@ -116,9 +118,9 @@ returns-7 : tie.Need-returns-7
 unfolding answerTo
 returns-7 c =
     let a = c .before .before .before .before .before .before .before .before .before .before .args in
-    let e = mediate-as (a .board) (a .session) (a .registers) (a .flash .now) (a .memory .now) Argument (sym (c .before .before .before .before .before .before .before .reason-for .ensures) ∙ c .before .before .before .before .before .enum-told7 .given .1) in
+    let e = mediate-as (setUp (a .board)) (a .registers) (lent (a .session) (a .flash .now) (a .memory .now)) Argument (sym (c .before .before .before .before .before .before .before .reason-for .ensures) ∙ c .before .before .before .before .before .enum-told7 .given .1) in
     let call = c .before .before .refuse-argument in
-    (call .ensures .0 ∙ ap (λ (r : Outcome). r .answer) (sym e), call .ensures .1 ∙ ap (λ (r : Outcome). r .flash) (sym e), sym (argument-memory (a .session) (a .registers) (a .flash .now) (a .memory .now)) ∙ ap (λ (r : Outcome). r .memory) (sym e))
+    call .ensures ∙ sym e
 
 pub command-spec : {M : Type 1} → statement M
 command-spec =

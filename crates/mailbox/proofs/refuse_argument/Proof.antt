@@ -1,12 +1,14 @@
 -- `mailbox::refuse_argument` meets its contract.
-use mathlib.Core.Path.{refl, ap, _∙_}
+use mathlib.Core.Path.{ap, _∙_}
 use mathlib.Core.List.{[]}
 use Prim.Native.Nat.{_-_}
 use borrow.Author.Needs.{needs}
 use borrow.Author.Tests.{eq-eqb, ne-eqb}
 use Rattle.session.specs.declared.Session.{Session}
-use Rattle.refusals.specs.Registers.{commandOf}
-use Rattle.mailbox.specs.Commands.{Outcome, answered, closing}
+use Rattle.session.specs.Machine.{lent}
+use Rattle.mailbox.specs.declared.Answer.{Answer}
+use Rattle.registers.specs.Registers.{commandOf}
+use Rattle.mailbox.specs.Commands.{outcome, answered, closing}
 use Rattle.mailbox.proofs.refuse_argument.Statement.{statement}
 use Rattle.mailbox.proofs.refuse_argument.Tie as tie
 
@@ -26,9 +28,9 @@ returns : tie.Need-returns
 returns c =
     let a = c .before .before .before .before .before .before .before .before .args in
     let call = c .before .before .close-window in
-    let e = ap (λ (s : Session). closing 2 s (a .t2) (a .flash .now) (a .memory .now)) (c .before .before .before .before .before .with-number .ensures) in
+    let e = ap (λ (s : Session). closing 2 (a .t2) (lent s (a .flash .now) (a .memory .now))) (c .before .before .before .before .before .with-number .ensures) in
     rw (eq-eqb (commandOf (a .t2)) 4 (c .before .before .before .before .if1 .taken))
-    (call .ensures .0 ∙ ap (λ (r : Outcome). r .answer) e, call .ensures .1 ∙ ap (λ (r : Outcome). r .flash) e)
+    (call .ensures ∙ e)
 
 close-window-requires-2 : tie.Need-close-window-requires-2
 close-window-requires-2 c κs = search needs
@@ -40,9 +42,9 @@ returns-2 : tie.Need-returns-2
 returns-2 c =
     let a = c .before .before .before .before .before .before .before .before .before .args in
     let call = c .before .before .close-window2 in
-    let e = ap (λ (s : Session). closing 2 s (a .t2) (a .flash .now) (a .memory .now)) (c .before .before .before .before .before .before .with-number .ensures) in
+    let e = ap (λ (s : Session). closing 2 (a .t2) (lent s (a .flash .now) (a .memory .now))) (c .before .before .before .before .before .before .with-number .ensures) in
     rw (ne-eqb (commandOf (a .t2)) 4 (c .before .before .before .before .before .if1 .left), eq-eqb (commandOf (a .t2)) 6 (c .before .before .before .before .if2 .taken))
-    (call .ensures .0 ∙ ap (λ (r : Outcome). r .answer) e, call .ensures .1 ∙ ap (λ (r : Outcome). r .flash) e)
+    (call .ensures ∙ e)
 
 refuse-requires : tie.Need-refuse-requires
 refuse-requires c κs = search needs
@@ -51,7 +53,8 @@ returns-3 : tie.Need-returns-3
 returns-3 c =
     let a = c .before .before .before .before .before .before .args in
     rw (ne-eqb (commandOf (a .t2)) 4 (c .before .before .if1 .left), ne-eqb (commandOf (a .t2)) 6 (c .before .if2 .left))
-    (c .refuse .ensures ∙ ap (λ (s : Session). answered s (a .t2) 2 [] 0) (c .before .before .before .with-number .ensures), refl)
+    (ap (λ (r : Answer). outcome r (a .flash .now) (a .memory .now))
+    (c .refuse .ensures ∙ ap (λ (s : Session). answered s (a .t2) 2 [] 0) (c .before .before .before .with-number .ensures)))
 
 pub refuse-argument-spec : {M : Type 1} → statement M
 refuse-argument-spec =

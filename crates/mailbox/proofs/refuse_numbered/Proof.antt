@@ -4,8 +4,7 @@ use mathlib.Core.List.{[]}
 use Prim.Native.Nat.{ℕ, _-_}
 use borrow.Author.Needs.{needs}
 use Rattle.session.specs.declared.Session.{Session}
-use Rattle.mailbox.specs.Commands.{answered}
-use Rattle.mailbox.specs.Mediator.{numbered}
+use Rattle.mailbox.specs.Commands.{answered, numbered}
 use Rattle.mailbox.proofs.refuse_numbered.Statement.{statement}
 use Rattle.mailbox.proofs.refuse_numbered.Tie as tie
 

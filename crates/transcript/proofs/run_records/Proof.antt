@@ -5,7 +5,8 @@ use native.Mathlib.Omega.{arith}
 use borrow.Author.Needs.{needs}
 use borrow.Author.Tests.{not-true, not-false}
 use lib.ListN.{length}
-use Rattle.script.specs.declared.effects.Served.{Served}
+use Rattle.session.specs.Machine.{lent}
+use Rattle.script.specs.Effects.{Effect}
 use Rattle.script.proofs.Progress.{moves-on}
 use Rattle.transcript.specs.Run.{bench}
 use Rattle.transcript.proofs.Turns.{Going, begun, goes-on, over-bad, over-none}
@@ -15,7 +16,7 @@ use Rattle.transcript.proofs.run_records.Tie as tie
 abbrev Inv-loop : tie.InvT-loop
 Inv-loop input flash₀ memory₀ text₀ board session₀ end₀ at₀ flash memory text session end at =
     (end ≤ 48 * at) × (end ≤ 48 * length input) × (length flash ≡ length flash₀) × (length memory ≡ length memory₀) × (length text ≡ length text₀)
-    × Going input flash₀ memory₀ text₀ at session flash memory end text
+    × Going input flash₀ memory₀ text₀ at (lent session flash memory) end text
 
 abbrev μ-loop : tie.MeasureT-loop
 μ-loop input flash₀ memory₀ text₀ board session₀ end₀ at₀ flash memory text session end at = length input - at
@@ -35,7 +36,8 @@ serve-requires : tie.Need-serve-requires Inv-loop μ-loop
 serve-requires c κs = search needs
 
 put-bad-requires : tie.Need-put-bad-requires Inv-loop μ-loop
-put-bad-requires c κs = search needs
+put-bad-requires c κs =
+    omega (arith, c .before .before .before .before .before .before .before .before .before .before .before .before .loop .inv .1, c .before .before .before .before .before .before .before .before .before .before .before .before .before .before .before .before .before .before .pre)
 
 same-length : tie.Need-same-length Inv-loop μ-loop
 same-length c = search needs
@@ -55,12 +57,13 @@ returns c =
     let served = c .before .before .before .before .before .before .before .before .before .before .serve in
     let bad = c .before .before .put-bad in
     let gone =
-    over-bad (a .input .now) (a .flash .now) (a .memory .now) (a .text .now) (l .at) (l .session) (l .flash) (l .memory) (l .end) (l .text) (l .inv .5) here (item .result) (item .ensures) (served .result) _ _
-    (served .ensures .0) (served .ensures .1) (served .ensures .2) (bad .result) (bad .last .0) (not-true (served .result .good) (c .before .before .before .before .if1 .taken)) (bad .ensures .0, bad .ensures .1) in
+    over-bad (a .input .now) (a .flash .now) (a .memory .now) (a .text .now) (l .at) (lent (l .session) (l .flash) (l .memory)) (l .end) (l .text) (l .inv .5) here (item .result) (item .ensures) (served .result) _ _
+    (served .ensures) (bad .result) (bad .last .0) (not-true (served .result .good) (c .before .before .before .before .if1 .taken)) (bad .ensures .0, bad .ensures .1) in
     (gone .0, gone .1, gone .2, omega (arith, bad .ensures .2, l .inv .0, here, c .before .before .before .before .before .before .before .before .before .before .before .before .before .before .before .before .before .before .before .before .before .pre))
 
 put-answer-requires : tie.Need-put-answer-requires Inv-loop μ-loop
-put-answer-requires c κs = search needs
+put-answer-requires c κs =
+    omega (arith, c .before .before .before .before .before .before .before .before .before .before .before .before .before .loop .inv .1, c .before .before .before .before .before .before .before .before .before .before .before .before .before .before .before .before .before .before .before .pre)
 
 loop-less : tie.Need-loop-less Inv-loop μ-loop
 loop-less c =
@@ -70,7 +73,7 @@ loop-less c =
     let item = c .before .before .before .before .before .before .before .before .before .before .before .before .before .before .before .read-record in
     let served = c .before .before .before .before .before .before .before .before .before .before .before .before .serve in
     let past : l .at < item .result .next =
-    moves-on (a .input .now) (l .at) (item .result) (item .ensures) bench (l .session) (l .flash) (l .memory) (ap (λ (t : Served). t .good) (sym (served .ensures .0)) ∙ not-false (served .result .good) (c .before .before .before .before .before .before .if1 .left)) in
+    moves-on (a .input .now) (l .at) (item .result) (item .ensures) bench (lent (l .session) (l .flash) (l .memory)) (ap (λ (t : Effect). t .good) (sym (served .ensures)) ∙ not-false (served .result .good) (c .before .before .before .before .before .before .if1 .left)) in
     omega (arith, past, here)
 
 loop-again : tie.Need-loop-again Inv-loop μ-loop
@@ -82,15 +85,15 @@ loop-again c =
     let served = c .before .before .before .before .before .before .before .before .before .before .before .before .serve in
     let good = not-false (served .result .good) (c .before .before .before .before .before .before .if1 .left) in
     let past : l .at < item .result .next =
-    moves-on (a .input .now) (l .at) (item .result) (item .ensures) bench (l .session) (l .flash) (l .memory) (ap (λ (t : Served). t .good) (sym (served .ensures .0)) ∙ good) in
+    moves-on (a .input .now) (l .at) (item .result) (item .ensures) bench (lent (l .session) (l .flash) (l .memory)) (ap (λ (t : Effect). t .good) (sym (served .ensures)) ∙ good) in
     let answer = c .before .before .before .put-answer in (
       omega (arith, past, answer .ensures .2, l .inv .0),
       omega (arith, here, answer .ensures .2, l .inv .0),
       search needs,
       search needs,
       search needs,
-      goes-on (a .input .now) (a .flash .now) (a .memory .now) (a .text .now) (l .at) (l .session) (l .flash) (l .memory) (l .end) (l .text) (l .inv .5) here (item .result) (item .ensures) (served .result) _ _
-          (served .ensures .0) (served .ensures .1) (served .ensures .2) (answer .result) (answer .last .0) good (answer .ensures .0, answer .ensures .1),
+      goes-on (a .input .now) (a .flash .now) (a .memory .now) (a .text .now) (l .at) (lent (l .session) (l .flash) (l .memory)) (l .end) (l .text) (l .inv .5) here (item .result) (item .ensures) (served .result) _ _
+          (served .ensures) (answer .result) (answer .last .0) good (answer .ensures .0, answer .ensures .1),
     )
 
 same-length-4 : tie.Need-same-length-4 Inv-loop μ-loop
@@ -106,7 +109,7 @@ returns-2 : tie.Need-returns-2 Inv-loop μ-loop
 returns-2 c =
     let a = c .before .before .before .before .before .before .before .args in
     let l = c .before .loop in
-    let gone = over-none (a .input .now) (a .flash .now) (a .memory .now) (a .text .now) (l .at) (l .session) (l .flash) (l .memory) (l .end) (l .text) (c .loop-test .left) (l .inv .5) in
+    let gone = over-none (a .input .now) (a .flash .now) (a .memory .now) (a .text .now) (l .at) (lent (l .session) (l .flash) (l .memory)) (l .end) (l .text) (c .loop-test .left) (l .inv .5) in
     (gone .0, gone .1, gone .2, omega (arith, l .inv .1))
 
 pub run-records-spec : {M : Type 1} → statement M

@@ -1,5 +1,5 @@
 -- `flush::marked::locate` meets its contract.
-use mathlib.Core.Path.{_≡_, ap, subst, _∙_}
+use mathlib.Core.Path.{_≡_, ap, sym, subst, _∙_}
 use mathlib.Core.List.{List}
 use Prim.Native.Nat.{ℕ, _+_, _-_, _≤_, _<_}
 use native.Mathlib.Omega.{arith}
@@ -7,7 +7,7 @@ use borrow.Author.Needs.{needs}
 use lib.ListN.{length, getD, take}
 use lib.Seq.{take-all}
 use Rattle.flush.specs.Actions.{flushActions}
-use Rattle.flush.proofs.Lists.{nth-of, count-more, countOf, block-count, flush-none}
+use Rattle.flush.proofs.Lists.{nth-of, count-more, count-most, countOf, block-count, start-most, flush-none}
 use Rattle.flush.proofs.marked.locate.Statement.{statement}
 use Rattle.flush.proofs.marked.locate.Tie as tie
 
@@ -32,18 +32,32 @@ actions-of-requires c κs = search needs
 cast-if1 : tie.Need-cast-if1 Inv-loop μ-loop
 cast-if1 c = search needs
 
-cast-t13 : tie.Need-cast-t13 Inv-loop μ-loop
-cast-t13 c = search needs
+array-read-first-action : tie.Need-array-read-first-action Inv-loop μ-loop
+array-read-first-action c = search needs
+
+first-action-requires : tie.Need-first-action-requires Inv-loop μ-loop
+first-action-requires c κs = search needs
+
+cast-t17 : tie.Need-cast-t17 Inv-loop μ-loop
+cast-t17 c = search needs
+
+add-t18 : tie.Need-add-t18 Inv-loop μ-loop
+add-t18 c =
+    let a = c .before .before .before .before .before .args in
+    let l = c .before .before .before .before .loop in
+    let mark = getD (a .t1) (l .i) 0 in
+    omega (arith, c .first-action .ensures, start-most mark, c .before .before .actions-of .ensures, block-count 0 mark, count-most mark, c .before .if1 .taken)
 
 returns : tie.Need-returns Inv-loop μ-loop
 returns c =
-    let a = c .before .before .before .before .args in
-    let l = c .before .before .before .loop in
+    let a = c .before .before .before .before .before .args in
+    let l = c .before .before .before .before .loop in
+    let mark = getD (a .t1) (l .i) 0 in
     let long : length (a .t1) ≡ 64 = search needs in
-    let few : l .left < countOf (getD (a .t1) (l .i) 0) =
-    subst (λ (n : ℕ). l .left < n) (c .before .actions-of .ensures ∙ block-count 0 (getD (a .t1) (l .i) 0)) (c .if1 .taken) in
+    let few : l .left < countOf mark =
+    subst (λ (n : ℕ). l .left < n) (c .before .before .actions-of .ensures ∙ block-count 0 mark) (c .before .if1 .taken) in
     let found = nth-of (a .t1) (l .i) (omega arith) (l .left) few in
-    rw (l .inv .1) at found
+    rw (l .inv .1, sym (c .first-action .ensures)) at found
 
 cast-left : tie.Need-cast-left Inv-loop μ-loop
 cast-left c = search needs
@@ -85,7 +99,10 @@ locate-spec =
     array-read-actions-of
     actions-of-requires
     cast-if1
-    cast-t13
+    array-read-first-action
+    first-action-requires
+    cast-t17
+    add-t18
     returns
     cast-left
     sub-left

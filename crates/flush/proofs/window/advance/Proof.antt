@@ -1,7 +1,10 @@
 -- `flush::window::advance` meets its contract.
-use mathlib.Core.Path.{sym, _∙_}
+use mathlib.Core.Path.{sym, ap, _∙_}
 use borrow.Author.Needs.{needs}
 use lib.ListN.{length}
+use Rattle.session.specs.Machine.{lent}
+use Rattle.flush.specs.declared.window.Step.the-variants.{Acted, Finished}
+use Rattle.flush.specs.Window.{Performed, stepped}
 use Rattle.flush.proofs.InWindow.{unsound, suspended, acted, finished}
 use borrow.Author.Tests.{not-true, not-false}
 use Rattle.session.proofs.Facts.{part-within}
@@ -14,12 +17,12 @@ is-sound-requires c κs = search needs
 returns : tie.Need-returns
 returns c =
     let a = c .before .before .before .before .args in
-    unsound (a .session) (a .memory .now) (a .done) (a .flash .now) (sym (c .before .is-sound .ensures) ∙ not-true (c .before .is-sound .result) (c .if1 .taken))
+    unsound (lent (a .session) (a .flash .now) (a .memory .now)) (a .done) (sym (c .before .is-sound .ensures) ∙ not-true (c .before .is-sound .result) (c .if1 .taken))
 
 returns-2 : tie.Need-returns-2
 returns-2 c =
     let a = c .before .before .before .before .before .args in
-    suspended (a .session) (a .memory .now) (a .done) (a .flash .now) (sym (c .before .before .is-sound .ensures) ∙ not-false (c .before .before .is-sound .result) (c .before .if1 .left)) (c .if2 .taken)
+    suspended (lent (a .session) (a .flash .now) (a .memory .now)) (a .done) (sym (c .before .before .is-sound .ensures) ∙ not-false (c .before .before .is-sound .result) (c .before .if1 .left)) (c .if2 .taken)
 
 step-part-requires : tie.Need-step-part-requires
 step-part-requires c κs =
@@ -35,9 +38,9 @@ returns-3 : tie.Need-returns-3
 returns-3 c =
     let a = c .before .before .before .before .before .before .before .before .before .before .args in
     let call = c .before .before .before .step-part in
-    let w = acted (a .session) (a .memory .now) (a .done) (a .flash .now) (sym (c .before .before .before .before .before .before .before .is-sound .ensures) ∙ not-false (c .before .before .before .before .before .before .before .is-sound .result) (c .before .before .before .before .before .before .if1 .left))
-    (c .before .before .before .before .before .if2 .left) (sym (call .ensures .0) ∙ c .if3 .taken) in
-    (w .0, w .1, call .ensures .1 ∙ w .2)
+    let w = acted (lent (a .session) (a .flash .now) (a .memory .now)) (a .done) (sym (c .before .before .before .before .before .before .before .is-sound .ensures) ∙ not-false (c .before .before .before .before .before .before .before .is-sound .result) (c .before .before .before .before .before .before .if1 .left))
+    (c .before .before .before .before .before .if2 .left) (sym (ap (λ (p : Performed). p .acted) (call .ensures)) ∙ c .if3 .taken) in
+    ap (λ (p : Performed). stepped Acted (p .flash)) (call .ensures) ∙ w
 
 same-length-2 : tie.Need-same-length-2
 same-length-2 c = search needs
@@ -46,9 +49,9 @@ returns-4 : tie.Need-returns-4
 returns-4 c =
     let a = c .before .before .before .before .before .before .before .before .before .before .args in
     let call = c .before .before .before .step-part in
-    let w = finished (a .session) (a .memory .now) (a .done) (a .flash .now) (sym (c .before .before .before .before .before .before .before .is-sound .ensures) ∙ not-false (c .before .before .before .before .before .before .before .is-sound .result) (c .before .before .before .before .before .before .if1 .left))
-    (c .before .before .before .before .before .if2 .left) (sym (call .ensures .0) ∙ c .if3 .left) in
-    (w .0, w .1, call .ensures .1 ∙ w .2)
+    let w = finished (lent (a .session) (a .flash .now) (a .memory .now)) (a .done) (sym (c .before .before .before .before .before .before .before .is-sound .ensures) ∙ not-false (c .before .before .before .before .before .before .before .is-sound .result) (c .before .before .before .before .before .before .if1 .left))
+    (c .before .before .before .before .before .if2 .left) (sym (ap (λ (p : Performed). p .acted) (call .ensures)) ∙ c .if3 .left) in
+    ap (λ (p : Performed). stepped Finished (p .flash)) (call .ensures) ∙ w
 
 pub advance-spec : {M : Type 1} → statement M
 advance-spec =

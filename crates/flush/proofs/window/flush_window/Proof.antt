@@ -2,6 +2,7 @@
 use mathlib.Core.Path.{sym, _∙_}
 use borrow.Author.Needs.{needs}
 use lib.ListN.{length}
+use Rattle.session.specs.Machine.{lent}
 use Rattle.flush.proofs.InWindow.{flushed-none, flushed-all}
 use borrow.Author.Tests.{not-true, not-false}
 use Rattle.session.proofs.Facts.{part-within}
@@ -14,7 +15,7 @@ is-sound-requires c κs = search needs
 returns : tie.Need-returns
 returns c =
     let a = c .before .before .before .before .args in
-    flushed-none (a .session) (a .memory .now) (a .flash .now) (sym (c .before .is-sound .ensures) ∙ not-true (c .before .is-sound .result) (c .if1 .taken))
+    flushed-none (lent (a .session) (a .flash .now) (a .memory .now)) (sym (c .before .is-sound .ensures) ∙ not-true (c .before .is-sound .result) (c .if1 .taken))
 
 flush-part-requires : tie.Need-flush-part-requires
 flush-part-requires c κs =
@@ -27,8 +28,9 @@ same-length c = search needs
 returns-2 : tie.Need-returns-2
 returns-2 c =
     let a = c .before .before .before .before .before .before .before .before .args in
-    let w = flushed-all (a .session) (a .memory .now) (a .flash .now) (sym (c .before .before .before .before .before .is-sound .ensures) ∙ not-false (c .before .before .before .before .before .is-sound .result) (c .before .before .before .before .if1 .left)) in
-    (c .before .before .flush-part .ensures .0 ∙ w .0, c .before .before .flush-part .ensures .1 ∙ w .1)
+    let w = flushed-all (lent (a .session) (a .flash .now) (a .memory .now)) (sym (c .before .before .before .before .before .is-sound .ensures) ∙ not-false (c .before .before .before .before .before .is-sound .result) (c .before .before .before .before .if1 .left)) in
+    let call = c .before .before .flush-part in
+    (λ i. record { actions = call .ensures .0 i; flash = call .ensures .1 i }) ∙ w
 
 pub flush-window-spec : {M : Type 1} → statement M
 flush-window-spec =

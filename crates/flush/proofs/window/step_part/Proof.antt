@@ -42,11 +42,10 @@ returns c =
     let a = c .before .before .before .before .before .before .before .before .before .before .before .args in
     let start = c .before .before .before .before .before .before .before .bytes in
     let size = c .before .before .before .before .before .bytes2 in
-    let call = c .before .before .step-marked in (
-      call .ensures .0,
-      performed (a .session) (a .memory .now) (a .flash .now) (call .last .0) (start .result .0) (size .result .0) (start .ensures) (size .ensures) (omega arith) (call .kept .0)
-          (take 1 (drop (a .done) (windowActions (a .session)))) (call .ensures .1),
-    )
+    let call = c .before .before .step-marked in
+    let flash = performed (a .session) (a .memory .now) (a .flash .now) (call .last .0) (start .result .0) (size .result .0) (start .ensures) (size .ensures) (omega arith) (call .kept .0)
+    (take 1 (drop (a .done) (windowActions (a .session)))) (call .ensures .1) in
+    λ i. record { acted = call .ensures .0 i; flash = flash i }
 
 pub step-part-spec : {M : Type 1} → statement M
 step-part-spec =

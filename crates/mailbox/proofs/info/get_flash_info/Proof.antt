@@ -5,7 +5,7 @@ use Prim.Native.Nat.{ℕ}
 use borrow.Author.Needs.{needs}
 use borrow.Author.Tests.{lt-ltb, le-ltb}
 use Rattle.units.specs.Units.{blockBytes}
-use Rattle.refusals.specs.Registers.{bytesOf}
+use Rattle.registers.specs.Registers.{bytesOf}
 use Rattle.mailbox.specs.Commands.{answered}
 use Rattle.mailbox.proofs.info.get_flash_info.Statement.{statement}
 use Rattle.mailbox.proofs.info.get_flash_info.Tie as tie

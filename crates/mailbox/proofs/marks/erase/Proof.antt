@@ -10,7 +10,7 @@ use Rattle.chip.proofs.Lent.{erased-part}
 use Rattle.session.specs.declared.Session.{Session}
 use Rattle.refusals.specs.declared.BlockRange.{BlockRange}
 use Rattle.refusals.specs.Refusals.{blocksNamed}
-use Rattle.mailbox.specs.Commands.{answered}
+use Rattle.mailbox.specs.Commands.{outcome, answered}
 use Rattle.mailbox.proofs.marks.erase.Statement.{statement}
 use Rattle.mailbox.proofs.marks.erase.Tie as tie
 
@@ -61,12 +61,12 @@ returns c =
     let from = s .before .before .before .bytes .result .0 in
     let size = s .before .before .bytes2 .result .0 in
     let start = s .before .before .before .bytes .ensures ∙ ap (λ (t : BlockRange). toBytes (t .start)) v in
-    let count = s .before .before .bytes2 .ensures ∙ ap (λ (t : BlockRange). toBytes (t .count)) v in (
-      c .answer .ensures ∙ ap (λ (t : Session). answered t (a .registers) 1 [] 0) (m .ensures),
-      erased-part from (from + size) size (a .memory .now) (s .fill .last .0) refl (omega (arith, b .before .before .pre .1)) (s .fill .ensures)
-          ∙ ap (λ (t : ℕ). erased t size (a .memory .now)) start
-          ∙ ap (λ (t : ℕ). erased (toBytes (blocksNamed (a .session) (a .registers) .start)) t (a .memory .now)) count,
-    )
+    let count = s .before .before .bytes2 .ensures ∙ ap (λ (t : BlockRange). toBytes (t .count)) v in
+    let r = c .answer .ensures ∙ ap (λ (t : Session). answered t (a .registers) 1 [] 0) (m .ensures) in
+    let memory = erased-part from (from + size) size (a .memory .now) (s .fill .last .0) refl (omega (arith, b .before .before .pre .1)) (s .fill .ensures)
+    ∙ ap (λ (t : ℕ). erased t size (a .memory .now)) start
+    ∙ ap (λ (t : ℕ). erased (toBytes (blocksNamed (a .session) (a .registers) .start)) t (a .memory .now)) count in
+    λ flash i. outcome (r i) flash (memory i)
 
 pub erase-spec : {M : Type 1} → statement M
 erase-spec =

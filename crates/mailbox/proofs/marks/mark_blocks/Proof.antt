@@ -6,7 +6,7 @@ use native.Mathlib.Omega.{arith}
 use borrow.Author.Needs.{needs}
 use lib.ListN.{length, set, replicate}
 use Rattle.buffers.specs.Ranges.{replace}
-use Rattle.mailbox.proofs.Fields.{replaced-none, replaced-more}
+use Rattle.mailbox.proofs.Marking.{replaced-none, replaced-more}
 use Rattle.mailbox.proofs.marks.mark_blocks.Statement.{statement}
 use Rattle.mailbox.proofs.marks.mark_blocks.Tie as tie
 

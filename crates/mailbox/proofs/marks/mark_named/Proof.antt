@@ -6,7 +6,7 @@ use borrow.Author.Needs.{needs}
 use lib.ListN.{replicate}
 use Rattle.buffers.specs.Ranges.{replace}
 use Rattle.refusals.specs.declared.BlockRange.{BlockRange}
-use Rattle.mailbox.specs.Commands.{withMarks}
+use Rattle.session.specs.Record.{withMarks}
 use Rattle.mailbox.proofs.marks.mark_named.Statement.{statement}
 use Rattle.mailbox.proofs.marks.mark_named.Tie as tie
 
@@ -24,12 +24,16 @@ mark-blocks-requires c κs =
     let s = c .before .before .before in
     subst (λ (b : BlockRange). b .start + b .count ≤ 64) (sym (s .blocks-named .ensures)) (s .before .pre)
 
+with-marks-requires : tie.Need-with-marks-requires
+with-marks-requires c κs = search needs
+
 returns : tie.Need-returns
 returns c =
-    let s = c .before .before .before .before in
+    let s = c .before .before .before .before .before in
     let a = s .before .args in
-    ap (λ (t : List ℕ). withMarks t (a .session))
-    (c .mark-blocks .ensures
+    c .with-marks .ensures
+    ∙ ap (λ (t : List ℕ). withMarks t (a .session))
+    (c .before .mark-blocks .ensures
     ∙ ap (λ (b : BlockRange). replace (b .start) (replicate (b .count) (a .mark)) (a .session .marks)) (s .blocks-named .ensures))
 
 pub mark-named-spec : {M : Type 1} → statement M
@@ -40,4 +44,5 @@ mark-named-spec =
     cast-mark-blocks
     cast-mark-blocks-2
     mark-blocks-requires
+    with-marks-requires
     returns)

@@ -4,7 +4,8 @@ use Prim.Native.Nat.{_-_}
 use borrow.Author.Needs.{needs}
 use lib.ListN.{replicate}
 use Rattle.session.specs.declared.Session.{Session}
-use Rattle.mailbox.specs.Commands.{answerWith}
+use Rattle.mailbox.specs.Commands.{outcome, answerWith}
+use Rattle.flush.specs.Window.{Flushed}
 use Rattle.session.specs.Record.{dropWindow}
 use Rattle.mailbox.proofs.windows.close_window.Statement.{statement}
 use Rattle.mailbox.proofs.windows.close_window.Tie as tie
@@ -24,12 +25,10 @@ same-length c = search needs
 returns : tie.Need-returns
 returns c =
     let a = c .before .before .before .before .before .before .before .before .args in
-    let call = c .before .before .before .before .flush-window in (
-      c .answer .ensures
-          ∙ ap (λ (s : Session). answerWith s (a .registers) (a .code) (replicate 11 0) (call .result)) (c .before .without-window .ensures)
-          ∙ ap (answerWith (dropWindow (a .session)) (a .registers) (a .code) (replicate 11 0)) (call .ensures .0),
-      call .ensures .1,
-    )
+    let call = c .before .before .before .before .flush-window in
+    let r = c .answer .ensures ∙ ap (λ (s : Session). answerWith s (a .registers) (a .code) (replicate 11 0) (call .result)) (c .before .without-window .ensures) in
+    (λ i. outcome (r i) (call .last .1 .0) (a .memory .now))
+    ∙ ap (λ (f : Flushed). outcome (answerWith (dropWindow (a .session)) (a .registers) (a .code) (replicate 11 0) (f .actions)) (f .flash) (a .memory .now)) (call .ensures)
 
 pub close-window-spec : {M : Type 1} → statement M
 close-window-spec =

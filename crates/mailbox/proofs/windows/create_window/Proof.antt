@@ -5,8 +5,9 @@ use native.Mathlib.Omega.{arith}
 use borrow.Author.Needs.{needs}
 use lib.ListN.{length}
 use Rattle.units.specs.Units.{roundUp}
-use Rattle.refusals.specs.Registers.{number}
-use Rattle.mailbox.specs.Commands.{Outcome, hint, sizeFor}
+use Rattle.session.specs.Machine.{setUp, lent}
+use Rattle.registers.specs.Registers.{number}
+use Rattle.mailbox.specs.Commands.{hint, sizeFor}
 use Rattle.mailbox.proofs.Front.{size-fits, opened-as}
 use Rattle.mailbox.proofs.windows.create_window.Statement.{statement}
 use Rattle.mailbox.proofs.windows.create_window.Tie as tie
@@ -50,11 +51,7 @@ returns c =
     ∙ ap (λ (o : ℕ). sizeFor S C o (c .before .before .before .before .before .before .before .before .hinted .result)) first
     ∙ ap (sizeFor S C (number 2 0 (a .registers))) (c .before .before .before .before .before .before .before .before .hinted .ensures) in
     let call = c .before .before .before .before .open-window in
-    let e = opened-as (a .window) (a .board) (a .session) (a .registers) (a .flash .now) (a .memory .now) first size in (
-      call .ensures .0 ∙ ap (λ (r : Outcome). r .answer) e,
-      call .ensures .1 ∙ ap (λ (r : Outcome). r .flash) e,
-      call .ensures .2 ∙ ap (λ (r : Outcome). r .memory) e,
-    )
+    call .ensures ∙ opened-as (a .window) (setUp (a .board)) (a .registers) (lent (a .session) (a .flash .now) (a .memory .now)) first size
 
 pub create-window-spec : {M : Type 1} → statement M
 create-window-spec =

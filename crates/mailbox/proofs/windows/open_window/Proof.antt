@@ -6,7 +6,9 @@ use borrow.Author.Needs.{needs}
 use Rattle.session.specs.declared.Session.{Session}
 use Rattle.units.specs.Units.{toBytes}
 use Rattle.buffers.specs.Ranges.{range, replace}
-use Rattle.mailbox.specs.Commands.{answered, withWindow, createArguments}
+use Rattle.mailbox.specs.Commands.{outcome, answered, createArguments}
+use Rattle.session.specs.Record.{withWindow}
+use Rattle.flush.specs.Window.{Flushed}
 use Rattle.mailbox.proofs.windows.open_window.Statement.{statement}
 use Rattle.mailbox.proofs.windows.open_window.Tie as tie
 
@@ -32,13 +34,16 @@ returns : tie.Need-returns
 returns c =
     let a = c .before .before .before .before .before .before .before .before .before .before .before .before .before .before .args in
     let call = c .before .before .before .before .before .before .before .before .before .flush-window in
-    let copy = c .before .before .before .before .copy-blocks in (
-      c .open-answer .ensures
-          ∙ ap (λ (s : Session). answered s (a .registers) 1 (createArguments (s .version) (a .board .lpc) (s .size) (s .first)) (call .result)) (c .before .with-window .ensures)
-          ∙ ap (answered (withWindow (a .window) (a .first) (a .size) (a .session)) (a .registers) 1 (createArguments (a .session .version) (a .board .lpc) (a .size) (a .first))) (call .ensures .0),
-      call .ensures .1,
-      copy .ensures ∙ ap (λ (f : List ℕ). replace 0 (range (toBytes (a .first)) (toBytes (a .size)) f) (a .memory .now)) (call .ensures .1),
-    )
+    let copy = c .before .before .before .before .copy-blocks in
+    let r = c .open-answer .ensures
+    ∙ ap (λ (s : Session). answered s (a .registers) 1 (createArguments (s .version) (a .board .lpc) (s .size) (s .first)) (call .result)) (c .before .with-window .ensures) in
+    (λ i. outcome (r i) (call .last .1 .0) (copy .ensures i))
+    ∙ ap
+    (λ (f : Flushed). outcome
+    (answered (withWindow (a .window) (a .first) (a .size) (a .session)) (a .registers) 1 (createArguments (a .session .version) (a .board .lpc) (a .size) (a .first)) (f .actions))
+    (f .flash)
+    (replace 0 (range (toBytes (a .first)) (toBytes (a .size)) (f .flash)) (a .memory .now)))
+    (call .ensures)
 
 pub open-window-spec : {M : Type 1} → statement M
 open-window-spec =

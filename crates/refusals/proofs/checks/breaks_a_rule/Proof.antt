@@ -17,8 +17,8 @@ array-read-code c = search needs
 array-read-result : tie.Need-array-read-result
 array-read-result c = search needs
 
-word-requires : tie.Need-word-requires
-word-requires c κs = search needs
+read-words-requires : tie.Need-read-words-requires
+read-words-requires c κs = search needs
 
 cast-result : tie.Need-cast-result
 cast-result c = search needs
@@ -34,8 +34,8 @@ returns c = rw (c .match .keys1)
 
 returns-2 : tie.Need-returns-2
 returns-2 c =
-    let named = ap (λ (n : ℕ). leb (c .before .before .args .flash) n) (c .word .ensures) in
-    ⊎-elim (λ e. rw e named) (λ e. rw e named) (c .before .match .keys2)
+    let named = ap (λ (n : ℕ). leb (c .before .before .before .args .flash) n) (c .before .read-words .ensures .0) in
+    ⊎-elim (λ e. rw e named) (λ e. rw e named) (c .before .before .match .keys2)
 
 returns-3 : tie.Need-returns-3
 returns-3 c =
@@ -64,7 +64,7 @@ breaks-a-rule-spec =
     (tie.spec
     array-read-code
     array-read-result
-    word-requires
+    read-words-requires
     cast-result
     blocks-named-requires
     flush-breaks-a-rule-requires

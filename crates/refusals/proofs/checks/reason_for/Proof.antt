@@ -4,6 +4,7 @@ use mathlib.Core.Bool.{true}
 use Prim.Native.Nat.{ℕ}
 use borrow.Author.Tests.{not-true, not-false}
 use borrow.Author.Needs.{needs}
+use Rattle.session.specs.Machine.{setUp}
 use Rattle.session.specs.Soundness.{soundAt}
 use Rattle.refusals.specs.Refusals.{argumentBroken, reasonFor}
 use Rattle.refusals.proofs.BlockRanges.{flash-counted}
@@ -98,9 +99,9 @@ returns-6 c =
     let fresh = known .before .before in
     let sound = fresh .before .before in
     let a = sound .before .before .args in
-    let whole : soundAt (a .board .lpc) (a .flash) (a .memory) (a .session) ≡ true =
+    let whole : soundAt (setUp (a .board)) (a .flash) (a .memory) (a .session) ≡ true =
     sym (sound .before .is-sound-at .ensures) ∙ not-false _ (sound .if1 .left) in
-    let blocks = c .before .before .blocks2 .ensures ∙ flash-counted (a .board .lpc) (a .flash) (a .memory) (a .session) whole in
+    let blocks = c .before .before .blocks2 .ensures ∙ flash-counted (setUp (a .board)) (a .flash) (a .memory) (a .session) whole in
     rw (
       whole,
       sym (fresh .before .is-repeated .ensures) ∙ fresh .if2 .left,
@@ -119,9 +120,9 @@ returns-7 c =
     let fresh = known .before .before in
     let sound = fresh .before .before in
     let a = sound .before .before .args in
-    let whole : soundAt (a .board .lpc) (a .flash) (a .memory) (a .session) ≡ true =
+    let whole : soundAt (setUp (a .board)) (a .flash) (a .memory) (a .session) ≡ true =
     sym (sound .before .is-sound-at .ensures) ∙ not-false _ (sound .if1 .left) in
-    let blocks = c .before .before .blocks2 .ensures ∙ flash-counted (a .board .lpc) (a .flash) (a .memory) (a .session) whole in
+    let blocks = c .before .before .blocks2 .ensures ∙ flash-counted (setUp (a .board)) (a .flash) (a .memory) (a .session) whole in
     rw (
       whole,
       sym (fresh .before .is-repeated .ensures) ∙ fresh .if2 .left,

@@ -1,9 +1,10 @@
 -- `script::effects::serve` meets its contract: each kind of record by itself.
 use mathlib.Core.Path.{sym, ap, _∙_}
-use mathlib.Core.Bool.{Bool}
 use Rattle.session.specs.declared.suspension.Suspension.{Suspension}
 use Rattle.script.specs.declared.Kind.{Kind}
-use Rattle.script.specs.Effects.{Effect, keeping, afterCommand, effectOf}
+use Rattle.script.specs.Effects.{effected, keeping, commanded, effectOf}
+use Rattle.script.specs.declared.effects.Served.{Served}
+use Rattle.session.specs.Machine.{setUp, lent}
 use borrow.Author.Needs.{needs}
 use Rattle.script.proofs.effects.serve.Statement.{statement}
 use Rattle.script.proofs.effects.serve.Tie as tie
@@ -62,11 +63,9 @@ same-length-2 c = search needs
 returns : tie.Need-returns
 returns c =
     let a = c .before .before .before .before .before .before .before .before .before .before .before .before .before .args in
-    let e = sym (ap (λ (k : Kind). effectOf k (a .board) (a .item) (a .session) (a .flash .now) (a .memory .now)) (c .before .before .before .before .before .before .before .before .enum-told .given .1)) in (
-      c .answered .ensures ∙ ap afterCommand (c .before .before .before .before .before .command .ensures .0) ∙ ap (λ (r : Effect). r .served) e,
-      c .before .before .before .before .before .command .ensures .1 ∙ ap (λ (r : Effect). r .flash) e,
-      c .before .before .before .before .before .command .ensures .2 ∙ ap (λ (r : Effect). r .memory) e,
-    )
+    let call = c .before .before .before .before .before .command in
+    let e = sym (ap (λ (k : Kind). effectOf k (setUp (a .board)) (a .item) (lent (a .session) (a .flash .now) (a .memory .now))) (c .before .before .before .before .before .before .before .before .enum-told .given .1)) in
+    ap (λ (r : Served). effected r (call .last .1 .1 .1 .0) (call .last .1 .1 .1 .1 .0)) (c .answered .ensures) ∙ ap commanded (call .ensures) ∙ e
 
 same-length-3 : tie.Need-same-length-3
 same-length-3 c = search needs
@@ -74,43 +73,33 @@ same-length-3 c = search needs
 returns-2 : tie.Need-returns-2
 returns-2 c =
     let a = c .before .before .before .before .before .before .before .before .before .args in
-    let e = sym (ap (λ (k : Kind). effectOf k (a .board) (a .item) (a .session) (a .flash .now) (a .memory .now)) (c .before .before .before .before .enum-told2 .given .1)) in (
-      ap (λ (good : Bool). record { good = good; session = a .session; registers = a .item .registers }) (c .before .before .fill-window .ensures .0) ∙ ap (λ (r : Effect). r .served) e,
-      ap (λ (r : Effect). r .flash) e,
-      c .before .before .fill-window .ensures .1 ∙ ap (λ (r : Effect). r .memory) e,
-    )
+    let e = sym (ap (λ (k : Kind). effectOf k (setUp (a .board)) (a .item) (lent (a .session) (a .flash .now) (a .memory .now))) (c .before .before .before .before .enum-told2 .given .1)) in
+    let call = c .before .before .fill-window in
+    (λ i. record { good = call .ensures .0 i; registers = a .item .registers; machine = lent (a .session) (a .flash .now) (call .ensures .1 i) }) ∙ e
 
 returns-3 : tie.Need-returns-3
 returns-3 c =
     let a = c .before .before .before .before .before .before .before .args in
-    let e = sym (ap (λ (k : Kind). effectOf k (a .board) (a .item) (a .session) (a .flash .now) (a .memory .now)) (c .before .before .enum-told3 .given .1)) in (
-      c .moved .ensures ∙ ap (λ (t : Suspension). keeping (t .session) (a .item .registers)) (c .before .suspend .ensures) ∙ ap (λ (r : Effect). r .served) e,
-      ap (λ (r : Effect). r .flash) e,
-      ap (λ (r : Effect). r .memory) e,
-    )
+    let e = sym (ap (λ (k : Kind). effectOf k (setUp (a .board)) (a .item) (lent (a .session) (a .flash .now) (a .memory .now))) (c .before .before .enum-told3 .given .1)) in
+    ap (λ (r : Served). effected r (a .flash .now) (a .memory .now)) (c .moved .ensures ∙ ap (λ (t : Suspension). keeping (t .session) (a .item .registers)) (c .before .suspend .ensures)) ∙ e
 
 returns-4 : tie.Need-returns-4
 returns-4 c =
     let a = c .before .before .before .before .before .before .before .args in
-    let e = sym (ap (λ (k : Kind). effectOf k (a .board) (a .item) (a .session) (a .flash .now) (a .memory .now)) (c .before .before .enum-told4 .given .1)) in (
-      c .moved2 .ensures ∙ ap (λ (t : Suspension). keeping (t .session) (a .item .registers)) (c .before .resume .ensures) ∙ ap (λ (r : Effect). r .served) e,
-      ap (λ (r : Effect). r .flash) e,
-      ap (λ (r : Effect). r .memory) e,
-    )
+    let e = sym (ap (λ (k : Kind). effectOf k (setUp (a .board)) (a .item) (lent (a .session) (a .flash .now) (a .memory .now))) (c .before .before .enum-told4 .given .1)) in
+    ap (λ (r : Served). effected r (a .flash .now) (a .memory .now)) (c .moved2 .ensures ∙ ap (λ (t : Suspension). keeping (t .session) (a .item .registers)) (c .before .resume .ensures)) ∙ e
 
 returns-5 : tie.Need-returns-5
 returns-5 c =
     let a = c .before .before .before .before .before .before .before .args in
-    let e = sym (ap (λ (k : Kind). effectOf k (a .board) (a .item) (a .session) (a .flash .now) (a .memory .now)) (c .before .before .enum-told5 .given .1)) in (
-      c .moved3 .ensures ∙ ap (λ (t : Suspension). keeping (t .session) (a .item .registers)) (c .before .resume-changed .ensures) ∙ ap (λ (r : Effect). r .served) e,
-      ap (λ (r : Effect). r .flash) e,
-      ap (λ (r : Effect). r .memory) e,
-    )
+    let e = sym (ap (λ (k : Kind). effectOf k (setUp (a .board)) (a .item) (lent (a .session) (a .flash .now) (a .memory .now))) (c .before .before .enum-told5 .given .1)) in
+    ap (λ (r : Served). effected r (a .flash .now) (a .memory .now)) (c .moved3 .ensures ∙ ap (λ (t : Suspension). keeping (t .session) (a .item .registers)) (c .before .resume-changed .ensures)) ∙ e
 
 returns-6 : tie.Need-returns-6
 returns-6 c =
     let a = c .before .before .before .before .before .args in
-    let e = sym (ap (λ (k : Kind). effectOf k (a .board) (a .item) (a .session) (a .flash .now) (a .memory .now)) (c .enum-told6 .given .1)) in (ap (λ (r : Effect). r .served) e, ap (λ (r : Effect). r .flash) e, ap (λ (r : Effect). r .memory) e)
+    let e = sym (ap (λ (k : Kind). effectOf k (setUp (a .board)) (a .item) (lent (a .session) (a .flash .now) (a .memory .now))) (c .enum-told6 .given .1)) in
+    e
 
 pub serve-spec : {M : Type 1} → statement M
 serve-spec =

@@ -24,17 +24,20 @@ blocks-requires c κs = search needs
 cast-result : tie.Need-cast-result
 cast-result c = search needs
 
+cast-result-2 : tie.Need-cast-result-2
+cast-result-2 c = search needs
+
 add-result : tie.Need-add-result
 add-result c = search needs
 
 returns-2 : tie.Need-returns-2
 unfolding soundAt
 returns-2 c =
-    let a = c .before .before .before .args in
-    let s : sound (a .flash) (a .memory) (a .session) ≡ true = sym (c .before .before .is-sound .ensures) ∙ not-false (c .before .before .is-sound .result) (c .before .if1 .left) in
+    let a = c .before .before .before .before .args in
+    let s : sound (a .flash) (a .memory) (a .session) ≡ true = sym (c .before .before .before .is-sound .ensures) ∙ not-false (c .before .before .before .is-sound .result) (c .before .before .if1 .left) in
     let memory = sizes (a .flash) (a .memory) (a .session) s .1 in
-    rw s (ap (λ (n : ℕ). leb (a .lpc + n) 65536) (c .blocks2 .ensures ∙ counted 64 (a .memory) (omega arith) (sized 64 (a .memory) memory)))
+    rw s (ap (λ (n : ℕ). leb (a .board .lpc + n) 65536) (c .before .blocks2 .ensures ∙ counted 64 (a .memory) (omega arith) (sized 64 (a .memory) memory)))
 
 pub is-sound-at-spec : {M : Type 1} → statement M
 is-sound-at-spec =
-    tie.close (tie.spec is-sound-requires returns blocks-requires cast-result add-result returns-2)
+    tie.close (tie.spec is-sound-requires returns blocks-requires cast-result cast-result-2 add-result returns-2)

@@ -1,8 +1,8 @@
 -- `session::soundness::marks_are_sound` meets its contract: the marks from place i on are still to be tested.
 use mathlib.Core.Path.{_≡_, refl, sym, ap, _∙_}
-use mathlib.Core.Bool.{Bool, true, false, _&&_}
+use mathlib.Core.Bool.{Bool, true, _&&_, and-false, and-true}
 use mathlib.Core.Logic.{inl, inr, ⊎-elim}
-use Rattle.session.proofs.Marks.{mark-over, mark-within, marks-end, marks-narrow}
+use Rattle.session.proofs.SoundMarks.{mark-over, mark-within, marks-end, marks-narrow}
 use Prim.Native.Nat.{ℕ, _≤_, _+_, _-_}
 use native.Mathlib.Omega.{arith}
 use borrow.Author.Needs.{needs}
@@ -38,15 +38,6 @@ add-i c = omega arith
 
 loop-less : tie.Need-loop-less Inv-loop μ-loop
 loop-less c = omega arith
-
--- both of them, and one is false or true
-and-false : (b : Bool) → (b && false) ≡ false
-and-false true = refl
-and-false false = refl
-
-and-true : (b : Bool) → (b && true) ≡ b
-and-true true = refl
-and-true false = refl
 
 loop-again : tie.Need-loop-again Inv-loop μ-loop
 loop-again c =

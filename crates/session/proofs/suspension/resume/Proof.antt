@@ -1,13 +1,23 @@
 -- `session::suspension::resume` meets its contract.
+use mathlib.Core.Path.{ap}
+use mathlib.Core.Bool.{true}
+use Rattle.session.specs.declared.Session.{Session}
+use Rattle.session.specs.Suspension.{answer}
 use borrow.Author.Tests.{not-true, not-false}
+use borrow.Author.Needs.{needs}
 use Rattle.session.proofs.suspension.resume.Statement.{statement}
 use Rattle.session.proofs.suspension.resume.Tie as tie
 
 returns : tie.Need-returns
 returns c = rw (not-true (c .before .before .args .session .suspended) (c .if1 .taken))
 
+with-access-requires : tie.Need-with-access-requires
+with-access-requires c κs = search needs
+
 returns-2 : tie.Need-returns-2
-returns-2 c = rw (not-false (c .before .before .before .args .session .suspended) (c .before .if1 .left))
+returns-2 c =
+    let s = c .before .before .before .before .args .session in
+    rw (not-false (s .suspended) (c .before .before .if1 .left)) (ap (λ (t : Session). answer true s t) (c .with-access .ensures))
 
 pub resume-spec : {M : Type 1} → statement M
-resume-spec = tie.close (tie.spec returns returns-2)
+resume-spec = tie.close (tie.spec returns with-access-requires returns-2)

@@ -6,7 +6,7 @@ use Prim.Native.Nat.{ℕ, _+_}
 use native.Mathlib.Omega.{arith}
 use borrow.Author.Needs.{needs}
 use lib.ListN.{length}
-use Rattle.script.specs.Text.{registerLine}
+use Rattle.transcript.specs.Text.{registerLine}
 use Rattle.transcript.specs.Printing.{written, isCommand, answerText}
 use Rattle.transcript.proofs.Written.{written-empty}
 use Rattle.transcript.proofs.printing.put_answer.Statement.{statement}

@@ -7,14 +7,14 @@ use borrow.Author.Needs.{needs}
 use lib.ListN.{length}
 use Rattle.buffers.specs.Ranges.{range}
 use Rattle.units.specs.Units.{blockBytes, toBytes}
-use Rattle.script.specs.Text.{otherThanFF}
+use Rattle.transcript.specs.Text.{otherThanFF}
 use Rattle.transcript.specs.Printing.{written, decimal}
 use Rattle.transcript.proofs.Written.{joined}
 use Rattle.transcript.proofs.printing.put_count.Statement.{statement}
 use Rattle.transcript.proofs.printing.put_count.Tie as tie
 
-mul-start : tie.Need-mul-start
-mul-start c = search needs
+bytes-requires : tie.Need-bytes-requires
+bytes-requires c κs = search needs
 
 add-end : tie.Need-add-end
 add-end c = search needs
@@ -45,13 +45,18 @@ same-length c = search needs
 
 returns : tie.Need-returns
 returns c =
-    let a = c .before .before .before .before .before .before .before .before .before .before .before .before .before .args in
+    let a = c .before .before .before .before .before .before .before .before .before .before .before .before .before .before .args in
+    let start = c .before .before .before .before .before .before .before .before .before .before .before .bytes in
     let space = c .before .before .before .before .before .before .before .before .put in
     let count = c .before .before .before .count-written in
     let number = c .before .before .put-decimal in
-    let n = otherThanFF (range (toBytes (a .block)) blockBytes (a .flash .now)) in
-    let size : a .block * 4096 + 4096 - a .block * 4096 ≡ 4096 = omega arith in
-    let same : count .result ≡ n = count .ensures ∙ ap (λ (k : ℕ). otherThanFF (range (toBytes (a .block)) k (a .flash .now))) size in
+    let n = otherThanFF (range (toBytes (a .block .0)) blockBytes (a .flash .now)) in
+    let from = start .result .0 in
+    let size : from + 4096 - from ≡ 4096 = omega arith in
+    let same : count .result ≡ n =
+    count .ensures
+    ∙ ap (λ (k : ℕ). otherThanFF (range from k (a .flash .now))) size
+    ∙ ap (λ (at : ℕ). otherThanFF (range at blockBytes (a .flash .now))) (start .ensures) in
     let text =
     joined (a .at) (space .result) (number .result) (32 ∷ []) (decimal n) (a .text .now) (space .last .0) (number .last .0)
     (space .ensures .0, space .ensures .1)
@@ -62,7 +67,7 @@ pub put-count-spec : {M : Type 1} → statement M
 put-count-spec =
     tie.close
     (tie.spec
-    mul-start
+    bytes-requires
     add-end
     slice-aggregate-put
     put-requires

@@ -1,0 +1,29 @@
+-- What a call is given: what the board sets up, and what the call works on. The flush, the mediator and all that stands on it take these two
+-- records whole, so that a thing more that is lent is a field here.
+use Prim.Native.Nat.{ℕ}
+use mathlib.Core.List.{List}
+use Rattle.session.specs.declared.Board.{Board}
+use Rattle.session.specs.declared.Session.{Session}
+
+-- "B, the window's first LPC block", and "T, the suggested timeout in seconds"
+pub record Setup : Type 0 where
+  pub lpc : ℕ
+  pub timeout : ℕ
+
+-- as the code has them
+abbrev pub setUp : Board → Setup
+setUp board = record { lpc = board .lpc; timeout = board .timeout }
+
+-- the session, the flash and the window memory, each byte of them
+pub record Machine : Type 0 where
+  pub session : Session
+  pub flash : List ℕ
+  pub memory : List ℕ
+
+-- as they are lent
+abbrev pub lent : Session → List ℕ → List ℕ → Machine
+lent s flash memory = record { session = s; flash = flash; memory = memory }
+
+-- the machine with another session
+abbrev pub holding : Session → Machine → Machine
+holding s m = lent s (m .flash) (m .memory)
