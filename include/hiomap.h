@@ -12,9 +12,8 @@
  *     also where a length is 0;
  *   - no two of the things that one call borrows overlap (record, registers, flash, window memory), and
  *     nobody else writes to them during the call: an interrupt or another thread must wait. The window
- *     memory is written by the host between the calls, and not during one;
- *   - each bool byte is 0 or 1.
- * Every other value is taken: any version, event byte, marks, window number and buffer length gets the
+ *     memory is written by the host between the calls, and not during one.
+ * Every value is taken: any version, flag, event byte, marks, window number and buffer length gets the
  * answer that the rules give it, SYSTEM_ERROR (4) where the record or the sizes are not sound, or where lpc
  * and the blocks of the window memory together are above 65,536.
  */
@@ -75,13 +74,13 @@ extern "C" {
 #define HIOMAP_WINDOW_READ 1
 #define HIOMAP_WINDOW_WRITE 2
 
-/* A session, as the board keeps it. Make one with hiomap_fresh. */
+/* A session, as the board keeps it. Make one with hiomap_fresh. A record with a flag above 1 is not sound. */
 typedef struct hiomap_record {
     uint8_t version;   /* the agreed version: 0 none, 1, 2 */
-    bool numbered;     /* whether there is a previous sequence number */
+    uint8_t numbered;  /* whether there is a previous sequence number: 0 no, 1 yes */
     uint8_t previous;  /* that number; without one the byte has no meaning and is kept */
     uint8_t events;    /* the event byte */
-    bool suspended;    /* whether flash access is suspended */
+    uint8_t suspended; /* whether flash access is suspended: 0 no, 1 yes */
     uint8_t window;    /* HIOMAP_WINDOW_.. */
     uint16_t first;    /* the window's first flash block; 0 without a window */
     uint16_t size;     /* its size in blocks; 0 without a window */
@@ -125,13 +124,16 @@ HIOMAP_ASSERT(offsetof(hiomap_stepped, acted) == 1 && sizeof(hiomap_stepped) == 
 HIOMAP_ASSERT(offsetof(hiomap_bytes, length) == sizeof(uint8_t *), "hiomap_bytes");
 HIOMAP_ASSERT(offsetof(hiomap_const_bytes, length) == sizeof(uint8_t *), "hiomap_const_bytes");
 
-/* A fresh session: version 0, event byte 0x81, no window. */
+/*
+ * A fresh session: version 0, event byte 0x81, no window. Make one when the board starts and at each reset of
+ * the host, and write its event byte to register 15: docs/INTEGRATION.md.
+ */
 hiomap_record hiomap_fresh(void);
 
 /*
  * Serves one mailbox command and returns the number of its chip actions.
- *   record     the session; changed in place. A window number above 2 is answered with SYSTEM_ERROR, and
- *              the record then stays exactly as it is
+ *   record     the session; changed in place. A window number above 2, or a flag (numbered, suspended) above
+ *              1, is answered with SYSTEM_ERROR, and the record then stays exactly as it is
  *   registers  the 16 registers as received; they hold the response afterwards
  *   lpc        the window's first LPC block (B)
  *   timeout    the suggested timeout in seconds (T)
@@ -144,7 +146,9 @@ uint32_t hiomap_command(hiomap_record *record, uint8_t (*registers)[HIOMAP_REGIS
 /*
  * Flash access is suspended; resumed with the flash as it was; resumed with the flash changed, which drops
  * the window. They act on any record. `done` is false where there was nothing to do, and the record is
- * then the one that was given. A window number above 2 is kept by the first two; the third makes it 0.
+ * then the one that was given. `suspended` above 0 counts as yes, also above 1: a suspend has nothing to do
+ * then, and a resume makes it 0. `numbered` stays, whatever it is. A window number above 2 is kept by the
+ * first two; the third makes it 0. The event byte afterwards belongs into register 15.
  */
 hiomap_suspended hiomap_suspend(hiomap_record record);
 hiomap_suspended hiomap_resume(hiomap_record record);

@@ -1,6 +1,6 @@
 -- The record that C keeps, and the session that it stands for: document 01, "Session".
 use Prim.Native.Nat.{ℕ}
-use mathlib.Core.Bool.{Bool, true, false, cond}
+use mathlib.Core.Bool.{Bool, true, false, cond, not, _&&_}
 use lib.Dec.{eqb, leb}
 use Rattle.session.specs.declared.Session.{Session}
 use Rattle.session.specs.declared.Window.{Window}
@@ -21,9 +21,19 @@ windowOf n = cond (eqb n 1) Read (cond (eqb n 2) Write Closed)
 abbrev pub isWindow : ℕ → Bool
 isWindow n = leb n 2
 
+-- a number that stands for yes or no: 0 no, 1 yes; one above 1 is neither
+abbrev pub yesNo : Bool → ℕ
+yesNo b = cond b 1 0
+
+abbrev pub isYesNo : ℕ → Bool
+isYesNo n = leb n 1
+
+abbrev pub isYes : ℕ → Bool
+isYes n = not (eqb n 0)
+
 -- "the previous sequence number, if any"
-abbrev pub previousOf : Bool → ℕ → Previous
-previousOf numbered n = cond numbered (Number n) Absent
+abbrev pub previousOf : ℕ → ℕ → Previous
+previousOf numbered n = cond (isYes numbered) (Number n) Absent
 
 -- whether there is one, and the byte that stands for it: where there is none, a spare one
 abbrev pub isNumbered : Previous → Bool
@@ -34,14 +44,18 @@ abbrev pub numberOr : ℕ → Previous → ℕ
 numberOr spare Absent = spare
 numberOr spare (Number n) = n
 
--- the session that a record stands for
+-- each number of the record stands for something: a record of which one does not is not sound
+abbrev pub isRegular : Record → Bool
+isRegular h = isYesNo (h .numbered) && (isYesNo (h .suspended) && isWindow (h .window))
+
+-- the session that a record stands for; a number above 1 counts as yes there
 abbrev pub sessionOf : Record → Session
 sessionOf h =
     record {
       version = h .version;
       previous = previousOf (h .numbered) (h .previous);
       events = h .events;
-      suspended = h .suspended;
+      suspended = isYes (h .suspended);
       window = windowOf (h .window);
       first = h .first;
       size = h .size;
@@ -53,27 +67,31 @@ abbrev pub recordOf : ℕ → Session → Record
 recordOf spare s =
     record {
       version = s .version;
-      numbered = isNumbered (s .previous);
+      numbered = yesNo (isNumbered (s .previous));
       previous = numberOr spare (s .previous);
       events = s .events;
-      suspended = s .suspended;
+      suspended = yesNo (s .suspended);
       window = windowNumber (s .window);
       first = s .first;
       size = s .size;
       marks = s .marks;
     }
 
--- a record with another window number
-abbrev pub withWindow : ℕ → Record → Record
-withWindow window h =
+-- a record with another version, and with other numbers for yes, no and the window
+abbrev pub renumbered : ℕ → ℕ → ℕ → ℕ → Record → Record
+renumbered version numbered suspended window h =
     record {
-      version = h .version;
-      numbered = h .numbered;
+      version = version;
+      numbered = numbered;
       previous = h .previous;
       events = h .events;
-      suspended = h .suspended;
+      suspended = suspended;
       window = window;
       first = h .first;
       size = h .size;
       marks = h .marks;
     }
+
+-- the same version and suspension
+abbrev pub withNumbers : ℕ → ℕ → Record → Record
+withNumbers numbered window h = renumbered (h .version) numbered (h .suspended) window h

@@ -2,7 +2,7 @@
 use crate::Record;
 use crate::Stepped;
 use crate::Suspended;
-use crate::convert::LAST_WINDOW;
+use crate::convert::is_regular;
 use crate::convert::record_of;
 use crate::convert::session_of;
 use flush::Step;
@@ -13,15 +13,15 @@ use session::resume_changed;
 use session::suspend;
 ghost use mathlib.Core.Path.{_≡_};
 ghost use Rattle.flush.specs.Window.{stepCode, stepYes};
-ghost use Rattle.board.specs.Record.{recordOf, withWindow};
-ghost use Rattle.board.specs.Calls.{answerOf, suspendedRecord, resumedRecord, changedRecord, steppedRecord};
+ghost use Rattle.board.specs.Record.{recordOf, withNumbers};
+ghost use Rattle.board.specs.Calls.{answerOf, suspendedRecord, resumedRecord, changedRecord, steppedBy, steppedRecord};
 
 // Flash access is suspended.
 #[no_mangle]
 pub extern "C" fn hiomap_suspend(held: Record) -> Suspended
     ensures { λ r. ⌜ r ≡ suspendedRecord held ⌝ }
 {
-    in_the_same_window(held, suspend(session_of(held)))
+    with_numbers(held, suspend(session_of(held)), held.window)
 }
 
 // Flash access is resumed, and the flash is as it was.
@@ -29,7 +29,7 @@ pub extern "C" fn hiomap_suspend(held: Record) -> Suspended
 pub extern "C" fn hiomap_resume(held: Record) -> Suspended
     ensures { λ r. ⌜ r ≡ resumedRecord held ⌝ }
 {
-    in_the_same_window(held, resume(session_of(held)))
+    with_numbers(held, resume(session_of(held)), held.window)
 }
 
 // Flash access is resumed, and the flash was changed meanwhile: the window is dropped.
@@ -38,39 +38,32 @@ pub extern "C" fn hiomap_resume_changed(held: Record) -> Suspended
     ensures { λ r. ⌜ r ≡ changedRecord held ⌝ }
 {
     let answer = resume_changed(session_of(held));
-    answered(held, answer.done, record_of(answer.session, held.previous))
+    with_numbers(held, answer, 0)
 }
 
-// The answer of a call that leaves the window: its number stays, whatever it is.
-fn in_the_same_window(held: Record, answer: Suspension) -> Suspended
-    ensures { λ r. ⌜ r ≡ answerOf (answer .done) held (withWindow (held .window) (recordOf (held .previous) (answer .session))) ⌝ }
+// Yes and the record afterwards, with a window number, or no and the record as it was. Whether there is a
+// previous number stays, whatever it is.
+fn with_numbers(held: Record, answer: Suspension, window: u8) -> Suspended
+    ensures { λ r. ⌜ r ≡ answerOf (answer .done) held (withNumbers (held .numbered) window (recordOf (held .previous) (answer .session))) ⌝ }
 {
-    let mut next = record_of(answer.session, held.previous);
-    next.window = held.window;
-    answered(held, answer.done, next)
-}
-
-// Yes and the record afterwards, or no and the record as it was.
-fn answered(held: Record, done: bool, next: Record) -> Suspended
-    ensures { λ r. ⌜ r ≡ answerOf done held next ⌝ }
-{
-    if done {
-        return Suspended {
-            done: true,
-            held: next,
-        };
+    if !answer.done {
+        return Suspended { done: false, held };
     }
-    Suspended { done: false, held }
+    let mut next = record_of(answer.session, held.previous);
+    next.numbered = held.numbered;
+    next.window = window;
+    Suspended {
+        done: true,
+        held: next,
+    }
 }
 
 // Advances the flush by one action, from the number of actions already done. Only the flash changes.
 #[no_mangle]
 pub extern "C" fn hiomap_step(held: Record, flash: &mut [u8], memory: &[u8], done: u64) -> Stepped
-    ensures { λ r. ⌜ (r .code ≡ steppedRecord held (now (memory .entry)) done (now (flash .entry)) .code)
-        × (r .acted ≡ steppedRecord held (now (memory .entry)) done (now (flash .entry)) .yes)
-        × (now (flash .exit) ≡ steppedRecord held (now (memory .entry)) done (now (flash .entry)) .flash) ⌝ }
+    ensures { λ r. ⌜ steppedBy r (now (flash .exit)) ≡ steppedRecord held (now (memory .entry)) done (now (flash .entry)) ⌝ }
 {
-    if LAST_WINDOW < held.window {
+    if !is_regular(held) {
         return Stepped {
             code: 4,
             acted: false,

@@ -4,10 +4,25 @@ use session::Previous;
 use session::Session;
 use session::Window;
 ghost use mathlib.Core.Path.{_≡_};
-ghost use Rattle.board.specs.Record.{windowNumber, windowOf, previousOf, isNumbered, numberOr, sessionOf, recordOf};
+ghost use Rattle.board.specs.Record.{windowNumber, windowOf, yesNo, previousOf, isNumbered, numberOr, isRegular, sessionOf, recordOf};
 
-// The largest number of a window.
-pub const LAST_WINDOW: u8 = 2;
+// The largest number of a window, and of yes or no.
+const LAST_WINDOW: u8 = 2;
+
+const YES: u8 = 1;
+
+// Each number of the record stands for something.
+pub(crate) fn is_regular(held: Record) -> bool
+    ensures { λ r. ⌜ r ≡ isRegular held ⌝ }
+{
+    if YES < held.numbered {
+        return false;
+    }
+    if YES < held.suspended {
+        return false;
+    }
+    held.window <= LAST_WINDOW
+}
 
 // The session that a record stands for.
 pub(crate) fn session_of(held: Record) -> Session
@@ -18,7 +33,7 @@ pub(crate) fn session_of(held: Record) -> Session
         version: held.version,
         previous: previous_of(held.numbered, held.previous),
         events: held.events,
-        suspended: held.suspended,
+        suspended: held.suspended != 0,
         window: window_of(held.window),
         first: held.first,
         size: held.size,
@@ -35,10 +50,10 @@ pub(crate) fn record_of(session: Session, spare: u8) -> Record
     let marks = session.marks;
     Record {
         version: session.version,
-        numbered: is_numbered(previous),
+        numbered: yes_no(is_numbered(previous)),
         previous: number_or(spare, previous),
         events: session.events,
-        suspended: session.suspended,
+        suspended: yes_no(session.suspended),
         window: window_number(window),
         first: session.first,
         size: session.size,
@@ -66,13 +81,19 @@ fn window_number(window: Window) -> u8
     }
 }
 
-fn previous_of(numbered: bool, number: u8) -> Previous
+fn yes_no(answer: bool) -> u8
+    ensures { λ r. ⌜ r ≡ yesNo answer ⌝ }
+{
+    if answer { YES } else { 0 }
+}
+
+fn previous_of(numbered: u8, number: u8) -> Previous
     ensures { λ r. ⌜ r ≡ previousOf numbered number ⌝ }
 {
-    if numbered {
-        Previous::Number(number)
-    } else {
+    if numbered == 0 {
         Previous::Absent
+    } else {
+        Previous::Number(number)
     }
 }
 

@@ -1,7 +1,7 @@
 // The board's boundary: the record that C keeps for a session, and the functions that C links.
 //
 // Every record, every content of the registers and every buffer length gets an answer. References that C
-// lends must be valid and must not overlap, and each bool byte is 0 or 1: include/hiomap.h.
+// lends must be valid and must not overlap: include/hiomap.h.
 mod access;
 mod convert;
 mod serving;
@@ -21,11 +21,12 @@ ghost use Rattle.session.specs.Record.{fresh};
 #[repr(C)]
 pub struct Record {
     pub version: u8,
-    // Whether there is a previous sequence number, and that number.
-    pub numbered: bool,
+    // Whether there is a previous sequence number, 0 no and 1 yes, and that number.
+    pub numbered: u8,
     pub previous: u8,
     pub events: u8,
-    pub suspended: bool,
+    // 0 no, 1 yes.
+    pub suspended: u8,
     // 0 none, 1 read, 2 write.
     pub window: u8,
     pub first: u16,

@@ -1,19 +1,20 @@
 // A command over values: the mediator's, of the session that a record stands for.
 use crate::Record;
-use crate::convert::LAST_WINDOW;
+use crate::convert::is_regular;
 use crate::convert::record_of;
 use crate::convert::session_of;
 use mailbox::command;
-use refusals::Board;
+use session::Board;
 use session::Session;
 ghost use mathlib.Core.Path.{_≡_};
 ghost use mathlib.Core.Bool.{cond};
-ghost use Rattle.mailbox.specs.Commands.{withVersion};
-ghost use Rattle.board.specs.Calls.{commanded};
-ghost use Rattle.board.specs.Record.{isWindow, sessionOf, recordOf, withWindow};
+ghost use Rattle.session.specs.Record.{withVersion};
+ghost use Rattle.board.specs.Calls.{board, left, commanded};
+ghost use Rattle.board.specs.Record.{sessionOf};
+ghost use Rattle.board.specs.Serving.{afterwards};
 
-// A version that is not sound.
-const UNSOUND_VERSION: u8 = 3;
+// A version that no later one reaches, so that it is never sound.
+const UNSOUND_VERSION: u8 = 255;
 
 // What a command gives back.
 pub struct Served {
@@ -22,7 +23,7 @@ pub struct Served {
     pub actions: u32,
 }
 
-// Serves one mailbox command. A record whose window number is no window's is refused, and stays.
+// Serves one mailbox command. A record with a number that stands for nothing is refused, and stays.
 pub(crate) fn serve(
     held: Record,
     registers: [u8; 16],
@@ -31,40 +32,42 @@ pub(crate) fn serve(
     flash: &mut [u8],
     memory: &mut [u8],
 ) -> Served
-    ensures { λ r. ⌜ (r ≡ commanded lpc timeout held registers (now (flash .entry)) (now (memory .entry)) .served)
-        × (now (flash .exit) ≡ commanded lpc timeout held registers (now (flash .entry)) (now (memory .entry)) .flash)
-        × (now (memory .exit) ≡ commanded lpc timeout held registers (now (flash .entry)) (now (memory .entry)) .memory) ⌝ }
+    ensures { λ r. ⌜ left (r .held) (r .registers) (r .actions) (now (flash .exit)) (now (memory .exit))
+        ≡ commanded (board lpc timeout) held registers (now (flash .entry)) (now (memory .entry)) ⌝ }
 {
+    let regular = is_regular(held);
     let board = Board { lpc, timeout };
-    let answer = command(served_session(held), registers, board, flash, memory);
+    let session = served_session(held, regular);
+    let answer = command(session, registers, board, flash, memory);
     let replied = answer.registers;
     Served {
-        held: kept_record(held, answer.session),
+        held: kept_record(held, regular, answer.session),
         registers: replied,
         actions: answer.actions,
     }
 }
 
-// The session that a record stands for, of an unsound version where its window number is no window's: so
-// every record takes one way through the mediator, and that call is compiled in place.
-fn served_session(held: Record) -> Session
-    ensures { λ r. ⌜ r ≡ cond (isWindow (held .window)) (sessionOf held) (withVersion 3 (sessionOf held)) ⌝ }
+// The session that a record stands for, of an unsound version where the record is not regular: so every
+// record takes one way through the mediator, and that call is compiled in place.
+fn served_session(held: Record, regular: bool) -> Session
+    ensures { λ r. ⌜ r ≡ cond regular (sessionOf held) (withVersion 255 (sessionOf held)) ⌝ }
 {
     let mut session = session_of(held);
-    if LAST_WINDOW < held.window {
+    if !regular {
         session.version = UNSOUND_VERSION;
     }
     session
 }
 
-// The record afterwards: one whose window number is no window's keeps it, and its version.
-fn kept_record(held: Record, session: Session) -> Record
-    ensures { λ r. ⌜ r ≡ cond (isWindow (held .window)) (recordOf (held .previous) session)
-        (withWindow (held .window) (recordOf (held .previous) (withVersion (held .version) session))) ⌝ }
+// The record afterwards: one that is not regular keeps its version and its numbers.
+fn kept_record(held: Record, regular: bool, session: Session) -> Record
+    ensures { λ r. ⌜ r ≡ afterwards regular held session ⌝ }
 {
     let mut next = record_of(session, held.previous);
-    if LAST_WINDOW < held.window {
+    if !regular {
         next.version = held.version;
+        next.numbered = held.numbered;
+        next.suspended = held.suspended;
         next.window = held.window;
     }
     next
@@ -80,11 +83,8 @@ pub extern "C" fn hiomap_command(
     flash: &mut [u8],
     memory: &mut [u8],
 ) -> u32
-    ensures { λ r. ⌜ (now (held .exit) ≡ commanded lpc timeout (now (held .entry)) (now (registers .entry)) (now (flash .entry)) (now (memory .entry)) .served .held)
-        × (now (registers .exit) ≡ commanded lpc timeout (now (held .entry)) (now (registers .entry)) (now (flash .entry)) (now (memory .entry)) .served .registers)
-        × (r ≡ commanded lpc timeout (now (held .entry)) (now (registers .entry)) (now (flash .entry)) (now (memory .entry)) .served .actions)
-        × (now (flash .exit) ≡ commanded lpc timeout (now (held .entry)) (now (registers .entry)) (now (flash .entry)) (now (memory .entry)) .flash)
-        × (now (memory .exit) ≡ commanded lpc timeout (now (held .entry)) (now (registers .entry)) (now (flash .entry)) (now (memory .entry)) .memory) ⌝ }
+    ensures { λ r. ⌜ left (now (held .exit)) (now (registers .exit)) r (now (flash .exit)) (now (memory .exit))
+        ≡ commanded (board lpc timeout) (now (held .entry)) (now (registers .entry)) (now (flash .entry)) (now (memory .entry)) ⌝ }
 {
     let answer = serve(*held, *registers, lpc, timeout, flash, memory);
     *held = answer.held;

@@ -10,7 +10,7 @@ window-of-requires : tie.Need-window-of-requires
 window-of-requires c κs = search needs
 
 returns : tie.Need-returns
-returns c = rw (c .window-of .ensures, c .before .previous-of .ensures)
+returns c = rw (c .window-of .ensures, c .before .before .previous-of .ensures)
 
 pub session-of-spec : {M : Type 1} → statement M
 session-of-spec = tie.close (tie.spec previous-of-requires window-of-requires returns)

@@ -44,7 +44,7 @@ use denote.Triple.Clauses.{ensured, lasts}
 use denote.Triple.Table.{entered, cited}
 use denote.Triple.Walked.{says, needs, Stays, stay-ref, stay-dropped, gave-slice, walkOf, AllGo, goes-ref, goes-dropped, goes-gave-slice, Walks, ends-at, walked, walk-meets}
 use denote.Exit.{yes}
-use Rattle.board.specs.Calls.{Left, commanded}
+use Rattle.board.specs.Calls.{board, left, commanded}
 use Rattle.board.specs.declared.Record.{Record}
 use Rattle.board.proofs.Record as Record-t
 use Rattle.board.proofs.Record.Laws as Record-l
@@ -93,7 +93,7 @@ module _ {M : Type 1} (𝓤 : URA M) (H : Heap 𝓤) (A : Atoms 𝓤) (W : Given
 
   -- what `serve` ensures
   abbrev Ensures : Served → List ℕ → List ℕ → Type 0
-  Ensures r zs₄ zs₅ = (r ≡ commanded h₂ h₃ h₀ h₁ (h₄ .now) (h₅ .now) .served) × (zs₄ ≡ commanded h₂ h₃ h₀ h₁ (h₄ .now) (h₅ .now) .flash) × (zs₅ ≡ commanded h₂ h₃ h₀ h₁ (h₄ .now) (h₅ .now) .memory)
+  Ensures r zs₄ zs₅ = left (r .held) (r .registers) (r .actions) zs₄ zs₅ ≡ commanded (board h₂ h₃) h₀ h₁ (h₄ .now) (h₅ .now)
 
   -- the end: [obs 0; borrow 0; κ₀'s token; obs 1; borrow 1; κ₁'s token; lent; last 4; last 5]
   exits : (r : Served) (zs₄ zs₅ : List ℕ) → Ensures r zs₄ zs₅ → length zs₄ ≡ length (h₄ .now) → length zs₅ ≡ length (h₅ .now) → Is u32 (r .actions) (vint w32 (r .actions) ∷ [])
@@ -101,7 +101,7 @@ module _ {M : Type 1} (𝓤 : URA M) (H : Heap 𝓤) (A : Atoms 𝓤) (W : Given
   exits r zs₄ zs₅ e long₄ long₅ is =
       qed W (‵ (fobs γ₀ (Record-t.the-row .coded .code (r .held))) ∷ ‵ (fbor κ₀ (Body (mem Record-t.the-row) b₀ o₀ γ₀)) ∷ ‵ (flft κ₀ q₀) ∷ ‵ (fobs γ₁ ((Array u8 16) .coded .code (map (λ (n : ℕ). n) (r .registers)))) ∷ ‵ (fbor κ₁ (Body (mem (Array u8 16)) b₁ o₁ γ₁)) ∷ ‵ (flft κ₁ q₁) ∷ (‵ (flft κ₂ q₂) ⊛ ‵ (flft κ₃ q₃) ⊛ ‵ ftrue) ∷ ‵ (finally u8 (h₄ .name) zs₄) ∷ ‵ (finally u8 (h₅ .name) zs₅) ∷ []) ∵
       suffices ! _ (ends-at 𝓤 H A entry.ended stayed (entry.clauses 𝓤 H A at-mem run) W (((κ₀, (κ₁, (κ₂, (κ₃, tt)))), (q₀, (q₁, (q₂, (q₃, tt)))), tt, a, at), tt) (vint w32 (r .actions)) (r .actions) ((r .held), ((map (λ (n : ℕ). n) (r .registers)), (tt, (tt, (zs₄, (zs₅, tt)))))) (tt, (tt, (tt, (tt, (long₄, (long₅, tt))))))) $
-      says ! (ap (λ (y : Served). y .held) (e .0), map-id (r .registers) ∙ ap (λ (y : Served). y .registers) (e .0), ap (λ (y : Served). y .actions) (e .0), e .1, e .2) $
+      says ! (ap (λ (x : List ℕ). left (r .held) x (r .actions) zs₄ zs₅) (map-id (r .registers)) ∙ e) $
       move ! (6 ∷ []) $ split ! $ move ! (1 ∷ []) $ split ! $ join ! $ move ! (1 ∷ 0 ∷ []) $ join ! $ move ! (6 ∷ 0 ∷ []) $ join ! $ move ! (3 ∷ 0 ∷ []) $ join ! $ frame ! $ nothing ! $ move ! (6 ∷ 0 ∷ []) $ fjoin ! $
       move ! (5 ∷ 0 ∷ []) $ fjoin ! $ nothing ! $ fjoin ! $ nothing ! $ fjoin ! $ move ! (3 ∷ 4 ∷ []) $ feqI ! (List Val) (vptr b₁ o₁ ∷ []) (vptr b₁ o₁ ∷ []) refl $ fjoin3 ! $ fjoin ! $ move ! (1 ∷ 2 ∷ []) $
       feqI ! (List Val) (vptr b₀ o₀ ∷ []) (vptr b₀ o₀ ∷ []) refl $ fjoin3 ! $ fjoin ! $ owned ! u32 (Is u32) (uint-makes 𝓤 H A W w32) (r .actions) _ is $ move ! (1 ∷ 0 ∷ []) $ done !

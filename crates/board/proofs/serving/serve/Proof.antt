@@ -1,13 +1,14 @@
 -- `board::serving::serve` meets its contract.
 use mathlib.Core.Path.{ap, _∙_}
 use borrow.Author.Needs.{needs}
-use Rattle.mailbox.specs.declared.Answer.{Answer}
 use Rattle.board.specs.declared.Record.{Record}
-use Rattle.board.specs.Record.{isWindow}
-use Rattle.board.specs.Calls.{Left}
-use Rattle.board.proofs.Answers.{afterwards, commanded-passed}
+use Rattle.board.specs.Calls.{board, left}
+use Rattle.board.proofs.Answers.{passed, commanded-passed}
 use Rattle.board.proofs.serving.serve.Statement.{statement}
 use Rattle.board.proofs.serving.serve.Tie as tie
+
+is-regular-requires : tie.Need-is-regular-requires
+is-regular-requires c κs = search needs
 
 served-session-requires : tie.Need-served-session-requires
 served-session-requires c κs = search needs
@@ -26,21 +27,19 @@ same-length-2 c = search needs
 
 returns : tie.Need-returns
 returns c =
-    let a = c .before .before .before .before .before .before .before .before .before .before .before .before .args in
+    let a = c .before .before .before .before .before .before .before .before .before .before .before .before .before .args in
     let call = c .before .before .before .before .before .before .command in
     let asked = c .before .before .before .before .before .before .before .before .before .served-session in
-    let e = commanded-passed (a .lpc) (a .timeout) (a .held) (a .registers) (a .flash .now) (a .memory .now) (asked .result) (asked .ensures) in (
-      ap (λ (n : Record). record { held = n; registers = call .result .registers; actions = call .result .actions }) (c .kept-record .ensures)
-          ∙ ap (λ (y : Answer). record { held = afterwards (isWindow (a .held .window)) (a .held) (y .session); registers = y .registers; actions = y .actions }) (call .ensures .0)
-          ∙ ap (λ (l : Left). l .served) e,
-      call .ensures .1 ∙ ap (λ (l : Left). l .flash) e,
-      call .ensures .2 ∙ ap (λ (l : Left). l .memory) e,
-    )
+    let regular = c .before .before .before .before .before .before .before .before .before .before .is-regular in
+    ap (λ (n : Record). left n (call .result .registers) (call .result .actions) (call .last .1 .1 .1 .0) (call .last .1 .1 .1 .1 .0)) (c .kept-record .ensures)
+    ∙ ap (passed (regular .result) (a .held)) (call .ensures)
+    ∙ commanded-passed (board (a .lpc) (a .timeout)) (a .held) (a .registers) (a .flash .now) (a .memory .now) (regular .result) (asked .result) (regular .ensures) (asked .ensures)
 
 pub serve-spec : {M : Type 1} → statement M
 serve-spec =
     tie.close
     (tie.spec
+    is-regular-requires
     served-session-requires
     command-requires
     kept-record-requires
