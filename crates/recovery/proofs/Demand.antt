@@ -1,39 +1,42 @@
 -- Demand 3, whole: `demand-3`, over the definitions that the contracts cite.
 use mathlib.Core.Path.{_≡_, refl, sym, ap, _∙_, subst}
-use mathlib.Core.Bool.{true, false, _&&_, not}
+use mathlib.Core.Bool.{Bool, true, false, cond, _&&_, not}
 use mathlib.Core.List.{List}
 use Prim.Native.Nat.{ℕ, _≤_, min}
 use native.Mathlib.Omega.{arith}
 use lib.Dec.{ltb, eqb}
 use lib.ListN.{length}
+use Rattle.units.proofs.Cases.{chosen}
 use Rattle.units.specs.Units.{toBytes}
 use Rattle.session.specs.declared.Session.{Session}
 use Rattle.session.specs.declared.Window.the-variants.{Write}
-use Rattle.session.specs.Record.{fresh}
+use Rattle.session.specs.Machine.{Setup, Machine, lent}
+use Rattle.session.specs.Marks.{dirty}
+use Rattle.session.specs.Record.{fresh, clearBits, withVersion, withAccess}
 use Rattle.session.specs.Soundness.{sound, soundAt}
-use Rattle.session.specs.Suspension.{resumed}
+use Rattle.session.specs.declared.suspension.Suspension.{Suspension}
+use Rattle.session.specs.Suspension.{controlLost, resumed}
 use Rattle.session.proofs.Facts.{part-within}
 use Rattle.flush.specs.Actions.{flushActions}
 use Rattle.flush.specs.Window.{windowActions, performIn}
 use Rattle.flush.proofs.Whole.{in-same, after-cut}
-use Rattle.refusals.specs.declared.Board.{Board}
-use Rattle.refusals.specs.Registers.{argument, number}
-use Rattle.mailbox.specs.Commands.{withVersion}
-use Rattle.mailbox.specs.Mediator.{numbered}
+use Rattle.registers.specs.Registers.{argument, number}
+use Rattle.mailbox.specs.Commands.{numbered, marked}
+use Rattle.refusals.specs.Refusals.{flushMarks}
 use Rattle.refusals.proofs.Accepting.{measured}
 use Rattle.recovery.specs.Cut.{Event, cut, start, Kept, AtCut}
 use Rattle.recovery.specs.Demand.{Demand3}
-use Rattle.recovery.specs.Second.{Machine, Way, bySteps, byFlush, Succeeds, flashAfter, agreeing, opening, SecondRun, StepsSucceed, secondEnd, secondFlash, unstopped, AddsNone, unstoppedFlash}
-use Rattle.recovery.proofs.FirstList.{sound-as, marks-sound, Running, begins, runs, says, session-after, block-at, finished-at, old-at, other-at, length-at, resumed-kept, resume-said, steps-flash, steps-said}
+use Rattle.recovery.specs.Second.{Way, bySteps, byFlush, Succeeds, flashAfter, agreeing, opening, SecondRun, StepsSucceed, secondEnd, secondFlash, unstopped, AddsNone, unstoppedFlash}
+use Rattle.recovery.proofs.FirstList.{sound-as, kept-version, kept-window, kept-first, kept-size, kept-marks, marks-sound, Running, begins, runs, says, session-after, block-at, finished-at, old-at, other-at, length-at, resumed-kept, resume-said, steps-flash, steps-said}
 use Rattle.recovery.proofs.SecondList.{info-leaves, create-opens, Open, calls-open, flush-leaves}
 
 -- ---- either way to flush does all actions of the window
-way-flash : (board : Board) (way : Way) (m : Machine) → Succeeds board way m → AddsNone way (m .session)
+way-flash : (setup : Setup) (way : Way) (m : Machine) → Succeeds setup way m → AddsNone way (m .session)
     → sound (length (m .flash)) (length (m .memory)) (m .session) ≡ true → m .session .window ≡ Write → m .session .suspended ≡ false
-    → flashAfter board way m ≡ performIn (m .session) (m .memory) (windowActions (m .session)) (m .flash)
-way-flash board bySteps m ok none e w a = steps-flash (m .session) (m .flash) (m .memory) e w a
-way-flash board (byFlush registers) m ok none e w a =
-    flush-leaves board (m .session) registers (m .flash) (m .memory) (ok .0) (ok .1) none e
+    → flashAfter setup way m ≡ performIn (m .session) (m .memory) (windowActions (m .session)) (m .flash)
+way-flash setup bySteps m ok none e w a = steps-flash (m .session) (m .flash) (m .memory) e w a
+way-flash setup (byFlush registers) m ok none e w a =
+    flush-leaves setup (m .session) registers (m .flash) (m .memory) (ok .0) (ok .1) none e
 
 -- what is done goes by the window's place, size and marks
 same-window : (t s : Session) → t .first ≡ s .first → t .size ≡ s .size → t .marks ≡ s .marks → (memory flash : List ℕ)
@@ -44,100 +47,111 @@ same-window t s f z m memory flash =
 -- a FLUSH of version 2 adds no mark
 adds-none : (way : Way) (t : Session) → t .version ≡ 2 → AddsNone way t
 adds-none bySteps t v = tt
-adds-none (byFlush registers) t v = ap (λ (version : ℕ). ltb version 2 && not (eqb (number 4 2 registers) 0)) v
+adds-none (byFlush registers) t v =
+    ap (λ (version : ℕ). cond (ltb version 2 && not (eqb (number 4 2 registers) 0)) (marked dirty t registers) t .marks) v
 
-module _ (board : Board) (s : Session) (flash memory : List ℕ) (sounds : soundAt (board .lpc) (length flash) (length memory) s ≡ true) (w : s .window ≡ Write) where
+module _ (setup : Setup) (s : Session) (flash memory : List ℕ) (sounds : soundAt setup (length flash) (length memory) s ≡ true) (w : s .window ≡ Write) where
   e : sound (length flash) (length memory) s ≡ true
-  e = measured (board .lpc) (length flash) (length memory) s sounds .sound
+  e = measured setup (length flash) (length memory) s sounds .sound
 
   known : s .version ≤ 2
-  known = measured (board .lpc) (length flash) (length memory) s sounds .fits .known
+  known = measured setup (length flash) (length memory) s sounds .fits .known
 
   room : toBytes (s .size) ≤ length memory
   room = part-within (length flash) (length memory) s e .1
 
   -- ---- the flush never stopped
   k : Kept s (resumed s .session)
-  k = resumed-kept s flash memory e w s (record { version = refl; previous = refl; window = refl; first = refl; size = refl; marks = refl })
+  k = resumed-kept s flash memory e w s refl
 
   awake : resumed s .session .suspended ≡ false
   awake = resume-said s flash memory e w s .1
 
   sound₁ : sound (length flash) (length memory) (resumed s .session) ≡ true
   sound₁ =
-      sound-as (length flash) (length memory) s (resumed s .session) e (subst (λ (v : ℕ). v ≤ 2) (sym (k .version)) known)
-      (k .window) (k .first) (k .size) (k .marks)
+      sound-as (length flash) (length memory) s (resumed s .session) e (subst (λ (v : ℕ). v ≤ 2) (sym (kept-version s (resumed s .session) k)) known)
+      (kept-window s (resumed s .session) k) (kept-first s (resumed s .session) k) (kept-size s (resumed s .session) k) (kept-marks s (resumed s .session) k)
 
-  unstopped-steps : StepsSucceed (unstopped s flash memory)
-  unstopped-steps = steps-said (resumed s .session) flash memory sound₁ (k .window ∙ w) awake
+  unstopped-steps : StepsSucceed (unstopped (lent s flash memory))
+  unstopped-steps = steps-said (resumed s .session) flash memory sound₁ (kept-window s (resumed s .session) k ∙ w) awake
 
+  -- suspended or not, it adds what it would add before the resume
   adds : (way : Way) → AddsNone way s → AddsNone way (resumed s .session)
   adds bySteps n = tt
-  adds (byFlush registers) n = ap (λ (version : ℕ). ltb version 2 && not (eqb (number 4 2 registers) 0)) (k .version) ∙ n
+  adds (byFlush registers) n =
+      chosen (λ (t : Suspension). AddsNone (byFlush registers) (t .session)) (s .suspended)
+      (record { done = true; session = withAccess false (clearBits controlLost (s .events)) s })
+      (record { done = false; session = s })
+      (λ _. resumes (flushMarks s registers) n) (λ _. n)
+    where
+      resumes : (adds : Bool) → cond adds (marked dirty s registers) s .marks ≡ s .marks
+          → cond adds (marked dirty (withAccess false (clearBits controlLost (s .events)) s) registers) (withAccess false (clearBits controlLost (s .events)) s) .marks ≡ s .marks
+      resumes true same = same
+      resumes false same = refl
 
-  never-stopped : (way : Way) → Succeeds board way (unstopped s flash memory) → AddsNone way s
-      → unstoppedFlash board way s flash memory ≡ performIn s memory (windowActions s) flash
+  never-stopped : (way : Way) → Succeeds setup way (unstopped (lent s flash memory)) → AddsNone way s
+      → unstoppedFlash setup way (lent s flash memory) ≡ performIn s memory (windowActions s) flash
   never-stopped way ok none =
-      way-flash board way (unstopped s flash memory) ok (adds way none) sound₁ (k .window ∙ w) awake
-      ∙ same-window (resumed s .session) s (k .first) (k .size) (k .marks) memory flash
+      way-flash setup way (unstopped (lent s flash memory)) ok (adds way none) sound₁ (kept-window s (resumed s .session) k ∙ w) awake
+      ∙ same-window (resumed s .session) s (kept-first s (resumed s .session) k) (kept-size s (resumed s .session) k) (kept-marks s (resumed s .session) k) memory flash
 
   module _ (events : List Event) where
-    r : Running s flash memory e w (cut s flash memory events)
-    r = runs s flash memory e w events (start s flash memory) (begins s flash memory e w)
+    r : Running s flash memory e w (cut (lent s flash memory) events)
+    r = runs s flash memory e w events (start (lent s flash memory)) (begins s flash memory e w)
 
-    at-cut : AtCut s flash memory events
+    at-cut : AtCut (lent s flash memory) events
     at-cut =
         record {
-          answered = says s flash memory e w events (start s flash memory) (begins s flash memory e w);
-          blocks = block-at s flash memory e w (cut s flash memory events) r;
-          finished = finished-at s flash memory e w (cut s flash memory events) r;
-          old = old-at s flash memory e w (cut s flash memory events) r;
-          others = other-at s flash memory e w (cut s flash memory events) r;
-          flash-size = length-at s flash memory e w (cut s flash memory events) r;
-          session = session-after s flash memory e w events (start s flash memory);
+          answered = says s flash memory e w events (start (lent s flash memory)) (begins s flash memory e w);
+          blocks = block-at s flash memory e w (cut (lent s flash memory) events) r;
+          finished = finished-at s flash memory e w (cut (lent s flash memory) events) r;
+          old = old-at s flash memory e w (cut (lent s flash memory) events) r;
+          others = other-at s flash memory e w (cut (lent s flash memory) events) r;
+          flash-size = length-at s flash memory e w (cut (lent s flash memory) events) r;
+          session = session-after s flash memory e w events (start (lent s flash memory));
           kept = r .kept;
           memory-same = r .memory-is;
         }
 
     abbrev Again : Type 0
-    Again = SecondRun board s (cut s flash memory events .flash) memory
+    Again = SecondRun setup (lent s flash memory) (cut (lent s flash memory) events .machine .flash)
 
     abbrev end : Again → Machine
-    end q = secondEnd board s (cut s flash memory events .flash) memory q
+    end q = secondEnd setup (lent s flash memory) (cut (lent s flash memory) events .machine .flash) q
 
     -- ---- the second run: its window is open again
-    second-open : (q : Again) → Open (s .first) (s .size) (length memory) (cut s flash memory events .flash) (end q)
+    second-open : (q : Again) → Open (s .first) (s .size) (length memory) (cut (lent s flash memory) events .machine .flash) (end q)
     second-open q =
         subst (λ (n : ℕ). Open (s .first) (s .size) n f₁ (end q)) long₁
         (subst (λ (f : List ℕ). Open (s .first) (s .size) (length (m₁ .memory)) f (end q)) (ap (λ (m : Machine). m .flash) left₁) o₃)
       where
         f₁ : List ℕ
-        f₁ = cut s flash memory events .flash
+        f₁ = cut (lent s flash memory) events .machine .flash
 
         m₁ : Machine
-        m₁ = agreeing board (q .info) f₁ (q .other)
+        m₁ = agreeing setup (q .info) f₁ (q .other)
 
-        left₁ : m₁ ≡ record { session = withVersion (min (argument 0 (q .info)) 2) (numbered fresh (q .info)); flash = f₁; memory = q .other }
-        left₁ = info-leaves board (q .info) f₁ (q .other) (q .info-is) (q .info-succeeds)
+        left₁ : m₁ ≡ lent (withVersion (min (argument 0 (q .info)) 2) (numbered fresh (q .info))) f₁ (q .other)
+        left₁ = info-leaves setup (q .info) f₁ (q .other) (q .info-is) (q .info-succeeds)
 
         long₁ : length (m₁ .memory) ≡ length memory
         long₁ = ap (λ (m : Machine). length (m .memory)) left₁ ∙ q .other-size
 
-        o₂ : Open (s .first) (s .size) (length (m₁ .memory)) (m₁ .flash) (opening board (q .info) (q .create) f₁ (q .other))
+        o₂ : Open (s .first) (s .size) (length (m₁ .memory)) (m₁ .flash) (opening setup (q .info) (q .create) f₁ (q .other))
         o₂ =
-            create-opens board (m₁ .session) (q .create) (m₁ .flash) (m₁ .memory) (q .create-is) (q .create-succeeds)
+            create-opens setup (m₁ .session) (q .create) (m₁ .flash) (m₁ .memory) (q .create-is) (q .create-succeeds)
             (ap (λ (m : Machine). m .session .marks) left₁) (s .first) (s .size) (q .agreed) (ap (λ (m : Machine). m .session .suspended) left₁)
             (q .same-first) (q .same-size)
 
         o₃ : Open (s .first) (s .size) (length (m₁ .memory)) (m₁ .flash) (end q)
         o₃ =
-            calls-open board (s .first) (s .size) (length (m₁ .memory)) (m₁ .flash) (subst (λ (n : ℕ). toBytes (s .size) ≤ n) (sym long₁) room)
-            (q .calls) (q .allowed) (opening board (q .info) (q .create) f₁ (q .other)) o₂
+            calls-open setup (s .first) (s .size) (length (m₁ .memory)) (m₁ .flash) (subst (λ (n : ℕ). toBytes (s .size) ≤ n) (sym long₁) room)
+            (q .calls) (q .allowed) (opening setup (q .info) (q .create) f₁ (q .other)) o₂
 
     second-sound : (q : Again) → sound (length (end q .flash)) (length (end q .memory)) (end q .session) ≡ true
     second-sound q =
         let o = second-open q in
-        ap (λ (n : ℕ). sound n (length (end q .memory)) (end q .session)) (ap length (o .flash-is) ∙ length-at s flash memory e w (cut s flash memory events) r)
+        ap (λ (n : ℕ). sound n (length (end q .memory)) (end q .session)) (ap length (o .flash-is) ∙ length-at s flash memory e w (cut (lent s flash memory) events) r)
         ∙ ap (λ (n : ℕ). sound (length flash) n (end q .session)) (o .memory-long)
         ∙ sound-as (length flash) (length memory) s (end q .session) e (subst (λ (v : ℕ). v ≤ 2) (sym (o .agreed)) (omega arith))
         (o .window ∙ sym w) (o .first-is) (o .size-is) (q .same-marks)
@@ -147,22 +161,25 @@ module _ (board : Board) (s : Session) (flash memory : List ℕ) (sounds : sound
         let o = second-open q in
         steps-said (end q .session) (end q .flash) (end q .memory) (second-sound q) (o .window) (o .awake)
 
-    second-ends : (q : Again) → secondFlash board s (cut s flash memory events .flash) memory q ≡ performIn s memory (windowActions s) flash
+    second-ends : (q : Again) → secondFlash setup (lent s flash memory) (cut (lent s flash memory) events .machine .flash) q ≡ performIn s memory (windowActions s) flash
     second-ends q =
         let o = second-open q in
-        way-flash board (q .way) (end q) (q .way-succeeds) (adds-none (q .way) (end q .session) (o .agreed)) (second-sound q) (o .window) (o .awake)
+        way-flash setup (q .way) (end q) (q .way-succeeds) (adds-none (q .way) (end q .session) (o .agreed)) (second-sound q) (o .window) (o .awake)
         ∙ same-window (end q .session) s (o .first-is) (o .size-is) (q .same-marks) (end q .memory) (end q .flash)
         ∙ ap (performIn s (end q .memory) (windowActions s)) (o .flash-is ∙ r .flash-is)
         ∙ after-cut s flash (part-within (length flash) (length memory) s e .0) memory room (marks-sound s flash memory e w) (end q .memory)
-        (subst (λ (n : ℕ). toBytes (s .size) ≤ n) (sym (o .memory-long)) room) (q .same-bytes) (cut s flash memory events .count)
+        (subst (λ (n : ℕ). toBytes (s .size) ≤ n) (sym (o .memory-long)) room) (q .same-bytes) (cut (lent s flash memory) events .count)
 
 -- the statement stands in specs/Demand.antt
 pub demand-3 : Demand3
-demand-3 board s flash memory sounds w events = (
-  at-cut board s flash memory sounds w events,
-  λ second way ok none. (
-    second-ends board s flash memory sounds w events second ∙ sym (never-stopped board s flash memory sounds w way ok none),
-    second-steps board s flash memory sounds w events second,
-    unstopped-steps board s flash memory sounds w,
-  ),
-)
+demand-3 setup m sounds w events =
+    let s = m .session in
+    let flash = m .flash in
+    let memory = m .memory in (
+      at-cut setup s flash memory sounds w events,
+      λ second way ok none. (
+        second-ends setup s flash memory sounds w events second ∙ sym (never-stopped setup s flash memory sounds w way ok none),
+        second-steps setup s flash memory sounds w events second,
+        unstopped-steps setup s flash memory sounds w,
+      ),
+    )

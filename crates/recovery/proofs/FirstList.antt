@@ -1,11 +1,11 @@
 -- The first list: whatever it is, the first j actions stand and the others do not.
 use mathlib.Core.Path.{_≡_, refl, sym, ap, _∙_, subst}
-use mathlib.Core.Bool.{Bool, true, false, cond, not, _||_, true≢false}
+use mathlib.Core.Bool.{Bool, true, false, cond, not}
 use mathlib.Core.List.{List, [], _∷_, _++_, append-nil}
 use mathlib.Core.Logic.{_⊎_, inl, inr, ⊎-elim}
 use Prim.Native.Nat.{ℕ, zero, suc, _+_, _-_, _/_, _≤_, _<_}
 use native.Mathlib.Omega.{arith}
-use lib.Dec.{ltb, eqb}
+use lib.Dec.{ltb}
 use lib.ListN.{length, getD, take, drop, replicate, drop-of-length-le}
 use lib.Seq.{take-add, take-all}
 use borrow.Author.Tests.{le-leb, lt-ltb, ltb-true, ltb-false}
@@ -14,10 +14,12 @@ use Rattle.units.specs.Units.{toBytes}
 use Rattle.session.specs.declared.Session.{Session}
 use Rattle.session.specs.declared.Window.{Window}
 use Rattle.session.specs.declared.Window.the-variants.{Write}
-use Rattle.session.specs.Record.{setBits, clearBits}
+use Rattle.session.specs.Machine.{lent}
+use Rattle.session.specs.Marks.{isMarked}
+use Rattle.session.specs.Record.{setBits, clearBits, withAccess}
 use Rattle.session.specs.Soundness.{marksSound, markable, sound}
 use Rattle.session.specs.declared.suspension.Suspension.{Suspension}
-use Rattle.session.specs.Suspension.{controlLost, withAccess, answer as saying, suspended, resumed}
+use Rattle.session.specs.Suspension.{controlLost, answer as saying, suspended, resumed}
 use Rattle.session.proofs.Facts.{sizes, fitting, refitted, part-within}
 use Rattle.buffers.proofs.Replace.{range-at}
 use Rattle.flush.specs.Actions.{Action, flushActions, performAll}
@@ -26,7 +28,7 @@ use Rattle.flush.specs.Window.{windowActions, windowPart, partEnd, performIn, A
 use Rattle.flush.proofs.Bytes.{AllIn}
 use Rattle.flush.proofs.Cuts.{all-flush, all-take, all-drop, block-after, passed-finished, ahead-old, cut-clean}
 use Rattle.flush.proofs.Whole.{part-length, in-none, in-length, in-part, in-outside, in-append, in-same}
-use Rattle.recovery.specs.Cut.{Event, step, suspend, resume, State, Said, stepped, told, counted, after, answer, afterAll, answers, expected, accessAfter, actionsOf, start, isMarked, inMarked, Kept}
+use Rattle.recovery.specs.Cut.{Event, step, suspend, resume, State, Said, stepped, told, counted, after, answer, afterAll, answers, expected, accessAfter, actionsOf, start, inMarked, Kept}
 
 -- ---- a session is as sound as another with the same window and marks, if its version is known
 pub sound-as : (flash memory : ℕ) (s t : Session) → sound flash memory s ≡ true → t .version ≤ 2 → t .window ≡ s .window → t .first ≡ s .first
@@ -35,19 +37,31 @@ sound-as flash memory s t e v w f z m =
     let g = fitting _ _ s (sizes flash memory s e .2) in
     refitted flash memory s t e v (rw (w, f, z) (g .window)) (rw (w, z, m) (g .marks))
 
--- neither of two tests holds
-either : (p q : Bool) → (p || q) ≡ false → (p ≡ false) × (q ≡ false)
-either true q e = (e, absurd (true≢false e))
-either false q e = (refl, e)
+-- what a session that differs in its suspension and event byte alone has of the other
+module _ (s t : Session) (k : Kept s t) where
+  pub kept-version : t .version ≡ s .version
+  kept-version = ap (λ (u : Session). u .version) k
+
+  pub kept-window : t .window ≡ s .window
+  kept-window = ap (λ (u : Session). u .window) k
+
+  pub kept-first : t .first ≡ s .first
+  kept-first = ap (λ (u : Session). u .first) k
+
+  pub kept-size : t .size ≡ s .size
+  kept-size = ap (λ (u : Session). u .size) k
+
+  pub kept-marks : t .marks ≡ s .marks
+  kept-marks = ap (λ (u : Session). u .marks) k
 
 -- ---- one step
 asleep : (t : Session) (memory : List ℕ) (j : ℕ) (flash : List ℕ) → sound (length flash) (length memory) t ≡ true → t .suspended ≡ true
-    → advanced t memory j flash ≡ record { code = 6; yes = false; flash = flash }
+    → advanced (lent t flash memory) j ≡ record { code = 6; yes = false; flash = flash }
 unfolding advanced
 asleep t memory j flash e u = rw (e, u)
 
 awake : (t : Session) (memory : List ℕ) (j : ℕ) (flash : List ℕ) → sound (length flash) (length memory) t ≡ true → t .suspended ≡ false
-    → advanced t memory j flash ≡ record { code = 1; yes = ltb j (length (windowActions t)); flash = performIn t memory (take 1 (drop j (windowActions t))) flash }
+    → advanced (lent t flash memory) j ≡ record { code = 1; yes = ltb j (length (windowActions t)); flash = performIn t memory (take 1 (drop j (windowActions t))) flash }
 unfolding advanced
 awake t memory j flash e u = rw (e, u)
 
@@ -82,43 +96,43 @@ module _ (s : Session) (flash memory : List ℕ) (e : sound (length flash) (leng
 
   -- what holds between two events
   pub record Running (st : State) : Type 0 where
-    pub kept : Kept s (st .session)
-    pub memory-is : st .memory ≡ memory
+    pub kept : Kept s (st .machine .session)
+    pub memory-is : st .machine .memory ≡ memory
     pub few : st .count ≤ actionsOf s
-    pub flash-is : st .flash ≡ performIn s memory (take (st .count) (windowActions s)) flash
+    pub flash-is : st .machine .flash ≡ performIn s memory (take (st .count) (windowActions s)) flash
 
-  pub begins : Running (start s flash memory)
+  pub begins : Running (start (lent s flash memory))
   begins =
       record {
-        kept = record { version = refl; previous = refl; window = refl; first = refl; size = refl; marks = refl };
+        kept = refl;
         memory-is = refl;
         few = omega arith;
         flash-is = sym (in-none s flash fits memory room);
       }
 
-  same-length : (st : State) → Running st → length (st .flash) ≡ length flash
+  same-length : (st : State) → Running st → length (st .machine .flash) ≡ length flash
   same-length st r =
       ap length (r .flash-is)
       ∙ in-length s flash fits memory room (take (st .count) (windowActions s)) (all-take (s .size) (st .count) (windowActions s) all)
 
-  still-sound : (st : State) → Running st → sound (length (st .flash)) (length (st .memory)) (st .session) ≡ true
+  still-sound : (st : State) → Running st → sound (length (st .machine .flash)) (length (st .machine .memory)) (st .machine .session) ≡ true
   still-sound st r =
       rw (same-length st r, r .memory-is)
-      (sound-as (length flash) (length memory) s (st .session) e
-      (subst (λ (v : ℕ). v ≤ 2) (sym (r .kept .version)) (fitting _ _ s (sizes (length flash) (length memory) s e .2) .known))
-      (r .kept .window) (r .kept .first) (r .kept .size) (r .kept .marks))
+      (sound-as (length flash) (length memory) s (st .machine .session) e
+      (subst (λ (v : ℕ). v ≤ 2) (sym (kept-version s (st .machine .session) (r .kept))) (fitting _ _ s (sizes (length flash) (length memory) s e .2) .known))
+      (kept-window s (st .machine .session) (r .kept)) (kept-first s (st .machine .session) (r .kept)) (kept-size s (st .machine .session) (r .kept)) (kept-marks s (st .machine .session) (r .kept)))
 
-  same-actions : (st : State) → Running st → windowActions (st .session) ≡ windowActions s
-  same-actions st r = ap flushActions (r .kept .marks)
+  same-actions : (st : State) → Running st → windowActions (st .machine .session) ≡ windowActions s
+  same-actions st r = ap flushActions (kept-marks s (st .machine .session) (r .kept))
 
   -- the flash after a step that is not suspended
   stepped-flash : (st : State) → Running st
-      → performIn (st .session) (st .memory) (take 1 (drop (st .count) (windowActions (st .session)))) (st .flash)
+      → performIn (st .machine .session) (st .machine .memory) (take 1 (drop (st .count) (windowActions (st .machine .session)))) (st .machine .flash)
       ≡ performIn s memory (take (counted N false (st .count)) (windowActions s)) flash
   stepped-flash st r =
-      in-same (st .session) s (r .kept .first) (r .kept .size) (st .memory) (take 1 (drop (st .count) (windowActions (st .session)))) (st .flash)
-      ∙ ap (λ (m : List ℕ). performIn s m (take 1 (drop (st .count) (windowActions (st .session)))) (st .flash)) (r .memory-is)
-      ∙ ap (λ (xs : List Action). performIn s memory (take 1 (drop (st .count) xs)) (st .flash)) (same-actions st r)
+      in-same (st .machine .session) s (kept-first s (st .machine .session) (r .kept)) (kept-size s (st .machine .session) (r .kept)) (st .machine .memory) (take 1 (drop (st .count) (windowActions (st .machine .session)))) (st .machine .flash)
+      ∙ ap (λ (m : List ℕ). performIn s m (take 1 (drop (st .count) (windowActions (st .machine .session)))) (st .machine .flash)) (r .memory-is)
+      ∙ ap (λ (xs : List Action). performIn s memory (take 1 (drop (st .count) xs)) (st .machine .flash)) (same-actions st r)
       ∙ ap (performIn s memory (take 1 (drop (st .count) (windowActions s)))) (r .flash-is)
       ∙ in-append s flash fits memory room (take (st .count) (windowActions s)) (take 1 (drop (st .count) (windowActions s)))
       (all-take (s .size) (st .count) (windowActions s) all)
@@ -136,33 +150,32 @@ module _ (s : Session) (flash memory : List ℕ) (e : sound (length flash) (leng
       later l = omega arith
 
   access : (t : Session) → Kept s t → (b : Bool) (v : ℕ) → Kept s (withAccess b v t)
-  access t k b v =
-      record { version = k .version; previous = k .previous; window = k .window; first = k .first; size = k .size; marks = k .marks }
+  access t k b v = ap (withAccess b v) k
 
   step-goes : (st : State) → Running st → Running (after N step st)
   step-goes st r =
       ⊎-elim
-      (λ (u : st .session .suspended ≡ true).
-      let a = asleep (st .session) (st .memory) (st .count) (st .flash) (still-sound st r) u in
+      (λ (u : st .machine .session .suspended ≡ true).
+      let a = asleep (st .machine .session) (st .machine .memory) (st .count) (st .machine .flash) (still-sound st r) u in
       record {
         kept = r .kept;
         memory-is = r .memory-is;
         few = rw u (r .few);
         flash-is = ap (λ (x : Advanced). x .flash) a ∙ r .flash-is ∙ reach (st .count) u;
       })
-      (λ (u : st .session .suspended ≡ false).
-      let a = awake (st .session) (st .memory) (st .count) (st .flash) (still-sound st r) u in
+      (λ (u : st .machine .session .suspended ≡ false).
+      let a = awake (st .machine .session) (st .machine .memory) (st .count) (st .machine .flash) (still-sound st r) u in
       record {
         kept = r .kept;
         memory-is = r .memory-is;
         few = rw u (still-few (st .count) (r .few));
         flash-is = ap (λ (x : Advanced). x .flash) a ∙ stepped-flash st r ∙ reach (st .count) u;
       })
-      (decided (st .session .suspended))
+      (decided (st .machine .session .suspended))
     where
-      reach : {b : Bool} (j : ℕ) → st .session .suspended ≡ b
+      reach : {b : Bool} (j : ℕ) → st .machine .session .suspended ≡ b
           → performIn s memory (take (counted (actionsOf s) b j) (windowActions s)) flash
-          ≡ performIn s memory (take (counted (actionsOf s) (st .session .suspended) j) (windowActions s)) flash
+          ≡ performIn s memory (take (counted (actionsOf s) (st .machine .session .suspended) j) (windowActions s)) flash
       reach j u = ap (λ (b : Bool). performIn s memory (take (counted (actionsOf s) b j) (windowActions s)) flash) (sym u)
 
   suspended-kept : (t : Session) → Kept s t → Kept s (suspended t .session)
@@ -188,9 +201,9 @@ module _ (s : Session) (flash memory : List ℕ) (e : sound (length flash) (leng
   goes : (event : Event) (st : State) → Running st → Running (after N event st)
   goes step st r = step-goes st r
   goes suspend st r =
-      record { kept = suspended-kept (st .session) (r .kept); memory-is = r .memory-is; few = r .few; flash-is = r .flash-is }
+      record { kept = suspended-kept (st .machine .session) (r .kept); memory-is = r .memory-is; few = r .few; flash-is = r .flash-is }
   goes resume st r =
-      record { kept = resumed-kept (st .session) (r .kept); memory-is = r .memory-is; few = r .few; flash-is = r .flash-is }
+      record { kept = resumed-kept (st .machine .session) (r .kept); memory-is = r .memory-is; few = r .few; flash-is = r .flash-is }
 
   pub runs : (events : List Event) (st : State) → Running st → Running (afterAll N events st)
   runs [] st r = r
@@ -198,17 +211,17 @@ module _ (s : Session) (flash memory : List ℕ) (e : sound (length flash) (leng
 
   -- ---- the answers
   step-said : (st : State) → Running st
-      → answer step st ≡ cond (st .session .suspended) (stepped 6 false) (stepped 1 (ltb (st .count) N))
+      → answer step st ≡ cond (st .machine .session .suspended) (stepped 6 false) (stepped 1 (ltb (st .count) N))
   step-said st r =
       ⊎-elim
-      (λ (u : st .session .suspended ≡ true).
-      ap (λ (x : Advanced). stepped (x .code) (x .yes)) (asleep (st .session) (st .memory) (st .count) (st .flash) (still-sound st r) u)
+      (λ (u : st .machine .session .suspended ≡ true).
+      ap (λ (x : Advanced). stepped (x .code) (x .yes)) (asleep (st .machine .session) (st .machine .memory) (st .count) (st .machine .flash) (still-sound st r) u)
       ∙ ap by (sym u))
-      (λ (u : st .session .suspended ≡ false).
-      ap (λ (x : Advanced). stepped (x .code) (x .yes)) (awake (st .session) (st .memory) (st .count) (st .flash) (still-sound st r) u)
+      (λ (u : st .machine .session .suspended ≡ false).
+      ap (λ (x : Advanced). stepped (x .code) (x .yes)) (awake (st .machine .session) (st .machine .memory) (st .count) (st .machine .flash) (still-sound st r) u)
       ∙ ap (λ (xs : List Action). stepped 1 (ltb (st .count) (length xs))) (same-actions st r)
       ∙ ap by (sym u))
-      (decided (st .session .suspended))
+      (decided (st .machine .session .suspended))
     where
       by : Bool → Said
       by b = cond b (stepped 6 false) (stepped 1 (ltb (st .count) N))
@@ -245,22 +258,22 @@ module _ (s : Session) (flash memory : List ℕ) (e : sound (length flash) (leng
       after-it : Bool → Bool
       after-it b = by b .session .suspended
 
-  pub says : (events : List Event) (st : State) → Running st → answers N events st ≡ expected N events (st .session .suspended) (st .count)
+  pub says : (events : List Event) (st : State) → Running st → answers N events st ≡ expected N events (st .machine .session .suspended) (st .count)
   says [] st r = refl
   says (step ∷ events) st r =
       ap (λ (x : Said). x ∷ answers N events (after N step st)) (step-said st r)
-      ∙ ap (λ (xs : List Said). cond (st .session .suspended) (stepped 6 false) (stepped 1 (ltb (st .count) N)) ∷ xs) (says events (after N step st) (goes step st r))
+      ∙ ap (λ (xs : List Said). cond (st .machine .session .suspended) (stepped 6 false) (stepped 1 (ltb (st .count) N)) ∷ xs) (says events (after N step st) (goes step st r))
   says (suspend ∷ events) st r =
-      let t = suspend-said (st .session) in
+      let t = suspend-said (st .machine .session) in
       ap (λ (x : Bool). told x ∷ answers N events (after N suspend st)) (t .0)
-      ∙ ap (λ (xs : List Said). told (not (st .session .suspended)) ∷ xs) (says events (after N suspend st) (goes suspend st r) ∙ ap (λ (b : Bool). expected N events b (st .count)) (t .1))
+      ∙ ap (λ (xs : List Said). told (not (st .machine .session .suspended)) ∷ xs) (says events (after N suspend st) (goes suspend st r) ∙ ap (λ (b : Bool). expected N events b (st .count)) (t .1))
   says (resume ∷ events) st r =
-      let t = resume-said (st .session) in
+      let t = resume-said (st .machine .session) in
       ap (λ (x : Bool). told x ∷ answers N events (after N resume st)) (t .0)
-      ∙ ap (λ (xs : List Said). told (st .session .suspended) ∷ xs) (says events (after N resume st) (goes resume st r) ∙ ap (λ (b : Bool). expected N events b (st .count)) (t .1))
+      ∙ ap (λ (xs : List Said). told (st .machine .session .suspended) ∷ xs) (says events (after N resume st) (goes resume st r) ∙ ap (λ (b : Bool). expected N events b (st .count)) (t .1))
 
   -- ---- the session
-  pub session-after : (events : List Event) (st : State) → afterAll N events st .session ≡ accessAfter events (st .session)
+  pub session-after : (events : List Event) (st : State) → afterAll N events st .machine .session ≡ accessAfter events (st .machine .session)
   session-after [] st = refl
   session-after (step ∷ events) st = session-after events (after N step st)
   session-after (suspend ∷ events) st = session-after events (after N suspend st)
@@ -274,26 +287,26 @@ module _ (s : Session) (flash memory : List ℕ) (e : sound (length flash) (leng
     some : AllIn (s .size) (take (st .count) (windowActions s))
     some = all-take (s .size) (st .count) (windowActions s) all
 
-    pub part-at : windowPart s (st .flash) ≡ done-part
+    pub part-at : windowPart s (st .machine .flash) ≡ done-part
     part-at = ap (windowPart s) (r .flash-is) ∙ in-part s flash fits memory room (take (st .count) (windowActions s)) some
 
-    pub block-at : (b : ℕ) → b < s .size → blockAt b (windowPart s (st .flash)) ≡ leaves memory b (take (st .count) (windowActions s)) (windowPart s flash)
+    pub block-at : (b : ℕ) → b < s .size → blockAt b (windowPart s (st .machine .flash)) ≡ leaves memory b (take (st .count) (windowActions s)) (windowPart s flash)
     block-at b h =
         ap (blockAt b) part-at
         ∙ block-after (s .size) memory room (windowPart s flash) (part-length s flash fits) (take (st .count) (windowActions s)) some b h
 
     pub finished-at : (b : ℕ) → b < s .size → progress b (st .count) (windowActions s) ≡ passed
-        → blockAt b (windowPart s (st .flash)) ≡ leaves memory b (windowActions s) (windowPart s flash)
+        → blockAt b (windowPart s (st .machine .flash)) ≡ leaves memory b (windowActions s) (windowPart s flash)
     finished-at b h p = block-at b h ∙ passed-finished (s .size) memory room (windowPart s flash) (part-length s flash fits) (s .marks) (st .count) b p
 
     pub old-at : (b : ℕ) → b < s .size → progress b (st .count) (windowActions s) ≡ ahead
-        → blockAt b (windowPart s (st .flash)) ≡ blockAt b (windowPart s flash)
+        → blockAt b (windowPart s (st .machine .flash)) ≡ blockAt b (windowPart s flash)
     old-at b h p = block-at b h ∙ ahead-old (s .size) memory room (windowPart s flash) (part-length s flash fits) (s .marks) (st .count) b p
 
-    pub length-at : length (st .flash) ≡ length flash
+    pub length-at : length (st .machine .flash) ≡ length flash
     length-at = same-length st r
 
-    outside-part : (x : ℕ) → (x < toBytes (s .first)) ⊎ (partEnd s ≤ x) → getD (st .flash) x 0 ≡ getD flash x 0
+    outside-part : (x : ℕ) → (x < toBytes (s .first)) ⊎ (partEnd s ≤ x) → getD (st .machine .flash) x 0 ≡ getD flash x 0
     outside-part x o =
         ap (λ (f : List ℕ). getD f x 0) (r .flash-is)
         ∙ in-outside s flash fits memory room (take (st .count) (windowActions s)) some x o
@@ -305,16 +318,14 @@ module _ (s : Session) (flash memory : List ℕ) (e : sound (length flash) (leng
         ap (λ (i : ℕ). getD f i 0) place ∙ sym (range-at (toBytes (s .first)) (toBytes (s .size)) f (x - toBytes (s .first)) (omega arith))
 
     inside-part : (x : ℕ) → toBytes (s .first) ≤ x → x < partEnd s → isMarked (getD (s .marks) ((x - toBytes (s .first)) / 4096) 0) ≡ false
-        → getD (st .flash) x 0 ≡ getD flash x 0
+        → getD (st .machine .flash) x 0 ≡ getD flash x 0
     inside-part x l h m =
-        let mark = getD (s .marks) ((x - toBytes (s .first)) / 4096) 0 in
-        let u = either (eqb mark 1) (eqb mark 2) m in
-        in-whole (st .flash) x l h
+        in-whole (st .machine .flash) x l h
         ∙ ap (λ (p : List ℕ). getD p (x - toBytes (s .first)) 0) part-at
-        ∙ cut-clean (s .size) memory room (s .marks) marks-sound (windowPart s flash) (part-length s flash fits) (st .count) (x - toBytes (s .first)) (u .0) (u .1)
+        ∙ cut-clean (s .size) memory room (s .marks) marks-sound (windowPart s flash) (part-length s flash fits) (st .count) (x - toBytes (s .first)) m
         ∙ sym (in-whole flash x l h)
 
-    pub other-at : (x : ℕ) → inMarked s x ≡ false → getD (st .flash) x 0 ≡ getD flash x 0
+    pub other-at : (x : ℕ) → inMarked s x ≡ false → getD (st .machine .flash) x 0 ≡ getD flash x 0
     other-at x q =
         ⊎-elim
         (λ (l : x < toBytes (s .first)). outside-part x (inl l))
@@ -326,17 +337,17 @@ module _ (s : Session) (flash memory : List ℕ) (e : sound (length flash) (leng
         (below-or x (toBytes (s .first)))
 
   -- ---- N steps from the start, not suspended
-  steps-count : (n : ℕ) (st : State) → st .session .suspended ≡ false → st .count + n ≤ N → afterAll N (replicate n step) st .count ≡ st .count + n
+  steps-count : (n : ℕ) (st : State) → st .machine .session .suspended ≡ false → st .count + n ≤ N → afterAll N (replicate n step) st .count ≡ st .count + n
   steps-count zero st u h = omega arith
   steps-count (suc n) st u h =
-      let more : counted N (st .session .suspended) (st .count) ≡ st .count + 1 =
+      let more : counted N (st .machine .session .suspended) (st .count) ≡ st .count + 1 =
       ap (λ (b : Bool). counted N b (st .count)) u ∙ ap (λ (t : Bool). cond t (st .count + 1) (st .count)) (lt-ltb (st .count) N (omega arith)) in
       steps-count n (after N step st) u (rw more (omega arith)) ∙ rw more (omega arith)
 
-  pub steps-flash : s .suspended ≡ false → afterAll N (replicate N step) (start s flash memory) .flash ≡ performIn s memory (windowActions s) flash
+  pub steps-flash : s .suspended ≡ false → afterAll N (replicate N step) (start (lent s flash memory)) .machine .flash ≡ performIn s memory (windowActions s) flash
   steps-flash u =
-      let count : afterAll N (replicate N step) (start s flash memory) .count ≡ N = steps-count N (start s flash memory) u (omega arith) ∙ omega arith in
-      runs (replicate N step) (start s flash memory) begins .flash-is
+      let count : afterAll N (replicate N step) (start (lent s flash memory)) .count ≡ N = steps-count N (start (lent s flash memory)) u (omega arith) ∙ omega arith in
+      runs (replicate N step) (start (lent s flash memory)) begins .flash-is
       ∙ ap (λ (j : ℕ). performIn s memory (take j (windowActions s)) flash) count
       ∙ ap (λ (xs : List Action). performIn s memory xs flash) (take-all N (windowActions s) (omega arith))
 
@@ -348,8 +359,8 @@ module _ (s : Session) (flash memory : List ℕ) (e : sound (length flash) (leng
       ap (λ (b : Bool). stepped 1 b ∷ expected N (replicate n step) false (cond b (j + 1) j)) t
       ∙ ap (λ (xs : List Said). stepped 1 true ∷ xs) (steps-expected n (j + 1) (omega arith))
 
-  pub steps-said : s .suspended ≡ false → answers N (replicate N step) (start s flash memory) ≡ replicate N (stepped 1 true)
+  pub steps-said : s .suspended ≡ false → answers N (replicate N step) (start (lent s flash memory)) ≡ replicate N (stepped 1 true)
   steps-said u =
-      says (replicate N step) (start s flash memory) begins
+      says (replicate N step) (start (lent s flash memory)) begins
       ∙ ap (λ (b : Bool). expected N (replicate N step) b 0) u
       ∙ steps-expected N 0 (omega arith)

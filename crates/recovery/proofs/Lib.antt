@@ -1,4 +1,6 @@
 pub mod Demand
 mod FirstList
-pub mod Inhabited
+mod MarksAgain
+pub mod Recipe
 mod SecondList
+mod Sending

@@ -15,37 +15,38 @@ use Rattle.chip.specs.Actions.{erased}
 use Rattle.chip.proofs.Laws.{erased-length}
 use Rattle.session.specs.declared.Session.{Session}
 use Rattle.session.specs.declared.Window.the-variants.{Write}
-use Rattle.session.specs.Record.{clean, fresh}
+use Rattle.session.specs.Machine.{Setup, Machine, lent}
+use Rattle.session.specs.Marks.{dirty, erasedMark}
+use Rattle.session.specs.Record.{clean, fresh, withVersion, withMarks}
 use Rattle.session.specs.Soundness.{sound, sessionSound}
 use Rattle.session.proofs.Facts.{part-within}
-use Rattle.flush.specs.Actions.{Action, dirty, erasedMark, flushActions, actionsFrom, blockActions}
+use Rattle.flush.specs.Actions.{Action, flushActions, actionsFrom, blockActions}
 use Rattle.flush.specs.Window.{windowActions, performIn, flushWhole}
 use Rattle.flush.proofs.Whole.{in-none}
-use Rattle.refusals.specs.declared.Board.{Board}
 use Rattle.refusals.specs.declared.Reason.{Reason}
 use Rattle.refusals.specs.declared.Reason.the-variants.{Accepted, System, Repeated, Unknown, Suspended, Windowless, Argument}
-use Rattle.refusals.specs.Registers.{commandOf, argument, number}
+use Rattle.registers.specs.Registers.{commandOf, argument, number}
 use Rattle.refusals.specs.Refusals.{blocksNamed, flushMarks, reasonFor, codeFor}
-use Rattle.mailbox.specs.Commands.{Outcome, withVersion, sizeFor, closing, hint, marked, created, flushedWith}
-use Rattle.mailbox.specs.Mediator.{numbered, isCreate, refused, served, answerTo, mediate}
+use Rattle.mailbox.specs.Commands.{Outcome, numbered, sizeFor, closing, hint, marked, flushing, created, flushedAll}
+use Rattle.mailbox.specs.Mediator.{numberedIn, isCreate, refused, served, answerTo, mediate}
 use Rattle.refusals.proofs.Accepting.{Passed, passed, Measured, measured, named-within, create-argument, mark-argument}
 use Rattle.mailbox.proofs.Mediating.{mediate-as}
 use Rattle.mailbox.proofs.Front.{size-fits}
-use Rattle.recovery.specs.Second.{Machine, response, sent, Call, send, write, Allowed, AllAllowed, called, calledAll, begun}
+use Rattle.recovery.specs.Second.{response, sent, Call, send, write, Allowed, AllAllowed, called, calledAll, begun}
 
 -- ---- a response of 1 is that of a command that no check refused
-module _ (board : Board) (s : Session) (registers flash memory : List ℕ) where
+module _ (setup : Setup) (s : Session) (registers flash memory : List ℕ) where
   abbrev code : Outcome → ℕ
-  code o = getD (o .answer .registers) 13 0
+  code o = getD (o .registers) 13 0
 
   reason : Reason
-  reason = reasonFor board s registers (length flash) (length memory)
+  reason = reasonFor setup s registers (length flash) (length memory)
 
   late : (a b : ℕ) → (a ≡ 1 → ⊥) → (b ≡ 1 → ⊥) → (t : Bool) → cond t a b ≡ 1 → ⊥
   late a b p q true e = p e
   late a b p q false e = q e
 
-  refused-code : (r : Reason) → (r ≡ Accepted → ⊥) → code (answerTo r board s registers flash memory) ≡ 1 → ⊥
+  refused-code : (r : Reason) → (r ≡ Accepted → ⊥) → code (answerTo r setup registers (lent s flash memory)) ≡ 1 → ⊥
   unfolding answerTo
   refused-code Accepted n e = n refl
   refused-code System n e = omega arith
@@ -62,13 +63,13 @@ module _ (board : Board) (s : Session) (registers flash memory : List ℕ) where
       two : _≡_ {A = ℕ} 2 1 → ⊥
       two q = omega arith
 
-  accepted : code (mediate board s registers flash memory) ≡ 1 → reasonFor board s registers (length flash) (length memory) ≡ Accepted
-  accepted h = go (reasonFor board s registers (length flash) (length memory)) refl
+  accepted : code (mediate setup registers (lent s flash memory)) ≡ 1 → reasonFor setup s registers (length flash) (length memory) ≡ Accepted
+  accepted h = go (reasonFor setup s registers (length flash) (length memory)) refl
     where
-      no : (r : Reason) → reasonFor board s registers (length flash) (length memory) ≡ r → (r ≡ Accepted → ⊥) → ⊥
-      no r e n = refused-code r n (ap code (sym (mediate-as board s registers flash memory r e)) ∙ h)
+      no : (r : Reason) → reasonFor setup s registers (length flash) (length memory) ≡ r → (r ≡ Accepted → ⊥) → ⊥
+      no r e n = refused-code r n (ap code (sym (mediate-as setup registers (lent s flash memory) r e)) ∙ h)
 
-      go : (r : Reason) → reasonFor board s registers (length flash) (length memory) ≡ r → reasonFor board s registers (length flash) (length memory) ≡ Accepted
+      go : (r : Reason) → reasonFor setup s registers (length flash) (length memory) ≡ r → reasonFor setup s registers (length flash) (length memory) ≡ Accepted
       go Accepted e = e
       go System e = absurd (no System e (λ q. let z : _≡_ {A = ℕ} 0 1 = cc in omega arith))
       go Repeated e = absurd (no Repeated e (λ q. let z : _≡_ {A = ℕ} 0 1 = cc in omega arith))
@@ -78,23 +79,19 @@ module _ (board : Board) (s : Session) (registers flash memory : List ℕ) where
       go Argument e = absurd (no Argument e (λ q. let z : _≡_ {A = ℕ} 0 1 = cc in omega arith))
 
   -- and leaves what its command says
-  carried : (k : ℕ) → commandOf registers ≡ k → reasonFor board s registers (length flash) (length memory) ≡ Accepted
-      → mediate board s registers flash memory ≡ served k board (numbered s registers) registers flash memory
+  pub carried : (k : ℕ) → commandOf registers ≡ k → reasonFor setup s registers (length flash) (length memory) ≡ Accepted
+      → mediate setup registers (lent s flash memory) ≡ served k setup registers (lent (numbered s registers) flash memory)
   unfolding answerTo
   carried k e a =
-      mediate-as board s registers flash memory Accepted a
-      ∙ ap (λ (c : ℕ). served c board (numbered s registers) registers flash memory) e
-
--- what a mailbox command leaves, as a machine
-abbrev machine : Outcome → Machine
-machine o = record { session = o .answer .session; flash = o .flash; memory = o .memory }
+      mediate-as setup registers (lent s flash memory) Accepted a
+      ∙ ap (λ (c : ℕ). served c setup registers (lent (numbered s registers) flash memory)) e
 
 -- ---- a flush without marks leaves the flash
 clean-none : flushActions clean ≡ []
 unfolding flushActions actionsFrom blockActions
 clean-none = refl
 
-flush-clean : (s : Session) (memory flash : List ℕ) → s .marks ≡ clean → flushWhole s memory flash .flash ≡ flash
+flush-clean : (s : Session) (memory flash : List ℕ) → s .marks ≡ clean → flushWhole (lent s flash memory) .flash ≡ flash
 unfolding flushWhole
 flush-clean s memory flash c =
     ⊎-elim
@@ -108,17 +105,23 @@ flush-clean s memory flash c =
 
 -- ---- FLUSH that adds no mark, on a sound session
 flush-kept : (s : Session) (registers memory flash : List ℕ) → sound (length flash) (length memory) s ≡ true
-    → flushWhole (numbered s registers) memory flash .flash ≡ performIn s memory (windowActions s) flash
+    → flushWhole (lent (numbered s registers) flash memory) .flash ≡ performIn s memory (windowActions s) flash
 unfolding flushWhole sound sessionSound performIn
 flush-kept s registers memory flash e = rw e
 
-pub flush-leaves : (board : Board) (s : Session) (registers flash memory : List ℕ) → commandOf registers ≡ 8
-    → getD (mediate board s registers flash memory .answer .registers) 13 0 ≡ 1 → flushMarks s registers ≡ false
-    → sound (length flash) (length memory) s ≡ true → mediate board s registers flash memory .flash ≡ performIn s memory (windowActions s) flash
+-- the session with the marks that it works from
+flush-from : (s : Session) (registers : List ℕ) (adds : Bool) → cond adds (marked dirty s registers) s .marks ≡ s .marks
+    → cond adds (marked dirty (numbered s registers) registers) (numbered s registers) ≡ numbered s registers
+flush-from s registers true same = ap (λ (marks : List ℕ). withMarks marks (numbered s registers)) same
+flush-from s registers false same = refl
+
+pub flush-leaves : (setup : Setup) (s : Session) (registers flash memory : List ℕ) → commandOf registers ≡ 8
+    → getD (mediate setup registers (lent s flash memory) .registers) 13 0 ≡ 1 → flushing s registers .marks ≡ s .marks
+    → sound (length flash) (length memory) s ≡ true → mediate setup registers (lent s flash memory) .machine .flash ≡ performIn s memory (windowActions s) flash
 unfolding served
-flush-leaves board s registers flash memory c ok none e =
-    ap (λ (o : Outcome). o .flash) (carried board s registers flash memory 8 c (accepted board s registers flash memory ok))
-    ∙ ap (λ (t : Bool). flushedWith (cond t (marked dirty (numbered s registers) registers) (numbered s registers)) registers flash memory .flash) none
+flush-leaves setup s registers flash memory c ok none e =
+    ap (λ (o : Outcome). o .machine .flash) (carried setup s registers flash memory 8 c (accepted setup s registers flash memory ok))
+    ∙ ap (λ (t : Session). flushedAll registers (lent t flash memory) .machine .flash) (flush-from s registers (flushMarks s registers) none)
     ∙ flush-kept s registers memory flash e
 
 -- ---- a machine with the window open again
@@ -132,34 +135,34 @@ pub record Open (first size long : ℕ) (flash : List ℕ) (m : Machine) : Type 
   pub memory-long : length (m .memory) ≡ long
 
 -- ---- GET_INFO on a fresh session
-pub info-leaves : (board : Board) (registers flash memory : List ℕ) → commandOf registers ≡ 2 → response board registers (begun flash memory) ≡ 1
-    → sent board registers (begun flash memory)
-    ≡ record { session = withVersion (min (argument 0 registers) 2) (numbered fresh registers); flash = flash; memory = memory }
+pub info-leaves : (setup : Setup) (registers flash memory : List ℕ) → commandOf registers ≡ 2 → response setup registers (begun flash memory) ≡ 1
+    → sent setup registers (begun flash memory)
+    ≡ lent (withVersion (min (argument 0 registers) 2) (numbered fresh registers)) flash memory
 unfolding served
-info-leaves board registers flash memory c ok =
-    ap machine (carried board fresh registers flash memory 2 c (accepted board fresh registers flash memory ok))
+info-leaves setup registers flash memory c ok =
+    ap (λ (o : Outcome). o .machine) (carried setup fresh registers flash memory 2 c (accepted setup fresh registers flash memory ok))
 
 -- ---- CREATE_WRITE_WINDOW on a session without marks
-module _ (board : Board) (s : Session) (registers flash memory : List ℕ) (c : commandOf registers ≡ 6)
-    (ok : getD (mediate board s registers flash memory .answer .registers) 13 0 ≡ 1) (none : s .marks ≡ clean) where
-  create-leaves : mediate board s registers flash memory ≡ created Write board (numbered s registers) registers flash memory
+module _ (setup : Setup) (s : Session) (registers flash memory : List ℕ) (c : commandOf registers ≡ 6)
+    (ok : getD (mediate setup registers (lent s flash memory) .registers) 13 0 ≡ 1) (none : s .marks ≡ clean) where
+  create-leaves : mediate setup registers (lent s flash memory) ≡ created Write setup registers (lent (numbered s registers) flash memory)
   unfolding served
-  create-leaves = carried board s registers flash memory 6 c (accepted board s registers flash memory ok)
+  create-leaves = carried setup s registers flash memory 6 c (accepted setup s registers flash memory ok)
 
-  create-flash : mediate board s registers flash memory .flash ≡ flash
-  create-flash = ap (λ (o : Outcome). o .flash) create-leaves ∙ flush-clean (numbered s registers) memory flash none
+  create-flash : mediate setup registers (lent s flash memory) .machine .flash ≡ flash
+  create-flash = ap (λ (o : Outcome). o .machine .flash) create-leaves ∙ flush-clean (numbered s registers) memory flash none
 
-  create-memory : length (mediate board s registers flash memory .memory) ≡ length memory
+  create-memory : length (mediate setup registers (lent s flash memory) .machine .memory) ≡ length memory
   create-memory =
-      ap (λ (o : Outcome). length (o .memory)) create-leaves
+      ap (λ (o : Outcome). length (o .machine .memory)) create-leaves
       ∙ ap (λ (f : List ℕ). length (replace 0 (range (toBytes o) (toBytes z) f) memory)) (flush-clean (numbered s registers) memory flash none)
       ∙ replace-length 0 (range (toBytes o) (toBytes z) flash) memory (omega (arith, long, fits .1, m .memory-sized .whole))
     where
-      p : Passed board s registers (length flash) (length memory)
-      p = passed board s registers (length flash) (length memory) (accepted board s registers flash memory ok)
+      p : Passed setup s registers (length flash) (length memory)
+      p = passed setup s registers (length flash) (length memory) (accepted setup s registers flash memory ok)
 
       m : Measured (length flash) (length memory) s
-      m = measured (board .lpc) (length flash) (length memory) s (p .sounds)
+      m = measured setup (length flash) (length memory) s (p .sounds)
 
       o : ℕ
       o = number 2 0 registers
@@ -176,13 +179,13 @@ module _ (board : Board) (s : Session) (registers flash memory : List ℕ) (c : 
       long = range-length (toBytes o) (toBytes z) flash (omega (arith, fits .0, m .flash-sized .whole))
 
   pub create-opens : (first size : ℕ) → s .version ≡ 2 → s .suspended ≡ false
-      → mediate board s registers flash memory .answer .session .first ≡ first → mediate board s registers flash memory .answer .session .size ≡ size
-      → Open first size (length memory) flash (machine (mediate board s registers flash memory))
+      → mediate setup registers (lent s flash memory) .machine .session .first ≡ first → mediate setup registers (lent s flash memory) .machine .session .size ≡ size
+      → Open first size (length memory) flash (mediate setup registers (lent s flash memory) .machine)
   create-opens first size v a f z =
       record {
-        agreed = ap (λ (o : Outcome). o .answer .session .version) create-leaves ∙ v;
-        awake = ap (λ (o : Outcome). o .answer .session .suspended) create-leaves ∙ a;
-        window = ap (λ (o : Outcome). o .answer .session .window) create-leaves;
+        agreed = ap (λ (o : Outcome). o .machine .session .version) create-leaves ∙ v;
+        awake = ap (λ (o : Outcome). o .machine .session .suspended) create-leaves ∙ a;
+        window = ap (λ (o : Outcome). o .machine .session .window) create-leaves;
         first-is = f;
         size-is = z;
         flash-is = create-flash;
@@ -190,12 +193,12 @@ module _ (board : Board) (s : Session) (registers flash memory : List ℕ) (c : 
       }
 
 -- ---- the list: every command and host write keeps the window open and the flash as it is
-module _ (board : Board) (first size long : ℕ) (flash : List ℕ) (room : toBytes size ≤ long) where
+module _ (setup : Setup) (first size long : ℕ) (flash : List ℕ) (room : toBytes size ≤ long) where
   -- a session that differs in its marks and its previous number alone
   kept-open : (m : Machine) → Open first size long flash m → (t : Session) → t .version ≡ m .session .version → t .suspended ≡ m .session .suspended
       → t .window ≡ m .session .window → t .first ≡ m .session .first → t .size ≡ m .session .size
       → (memory : List ℕ) → length memory ≡ length (m .memory)
-      → Open first size long flash (record { session = t; flash = m .flash; memory = memory })
+      → Open first size long flash (lent t (m .flash) memory)
   kept-open m o t v a w f z memory l =
       record {
         agreed = v ∙ o .agreed;
@@ -209,7 +212,7 @@ module _ (board : Board) (first size long : ℕ) (flash : List ℕ) (room : toBy
 
   module _ (m : Machine) (o : Open first size long flash m) (registers : List ℕ) (k : ℕ) (is : commandOf registers ≡ k) (w : (k ≡ 7) ⊎ (k ≡ 10)) where
     abbrev left : Reason → Machine
-    left r = machine (answerTo r board (m .session) registers (m .flash) (m .memory))
+    left r = answerTo r setup registers m .machine
 
     not-create : isCreate registers ≡ false
     not-create =
@@ -218,30 +221,30 @@ module _ (board : Board) (first size long : ℕ) (flash : List ℕ) (room : toBy
         (λ (e : k ≡ 10). rw (is ∙ e))
         w
 
-    refused-same : Open first size long flash (record { session = numbered (m .session) registers; flash = m .flash; memory = m .memory })
+    refused-same : Open first size long flash (numberedIn registers m)
     refused-same = kept-open m o (numbered (m .session) registers) refl refl refl refl refl (m .memory) refl
 
     marked-same : (mark : ℕ) (memory : List ℕ) → length memory ≡ length (m .memory)
-        → Open first size long flash (record { session = marked mark (numbered (m .session) registers) registers; flash = m .flash; memory = memory })
+        → Open first size long flash (lent (marked mark (numbered (m .session) registers) registers) (m .flash) memory)
     marked-same mark memory l = kept-open m o (marked mark (numbered (m .session) registers) registers) refl refl refl refl refl memory l
 
-    accepted-open : reasonFor board (m .session) registers (length (m .flash)) (length (m .memory)) ≡ Accepted → Open first size long flash (left Accepted)
+    accepted-open : reasonFor setup (m .session) registers (length (m .flash)) (length (m .memory)) ≡ Accepted → Open first size long flash (left Accepted)
     unfolding answerTo served
     accepted-open a =
         ⊎-elim
         (λ (e : k ≡ 7).
-        subst (λ (c : ℕ). Open first size long flash (machine (served c board (numbered (m .session) registers) registers (m .flash) (m .memory)))) (sym (is ∙ e))
+        subst (λ (c : ℕ). Open first size long flash (served c setup registers (numberedIn registers m) .machine)) (sym (is ∙ e))
         (marked-same dirty (m .memory) refl))
         (λ (e : k ≡ 10).
-        subst (λ (c : ℕ). Open first size long flash (machine (served c board (numbered (m .session) registers) registers (m .flash) (m .memory)))) (sym (is ∙ e))
+        subst (λ (c : ℕ). Open first size long flash (served c setup registers (numberedIn registers m) .machine)) (sym (is ∙ e))
         (marked-same erasedMark (erased (toBytes (blocksNamed (m .session) registers .start)) (toBytes (blocksNamed (m .session) registers .count)) (m .memory)) (same (inr e))))
         w
       where
-        p : Passed board (m .session) registers (length (m .flash)) (length (m .memory))
-        p = passed board (m .session) registers (length (m .flash)) (length (m .memory)) a
+        p : Passed setup (m .session) registers (length (m .flash)) (length (m .memory))
+        p = passed setup (m .session) registers (length (m .flash)) (length (m .memory)) a
 
         z : Measured (length (m .flash)) (length (m .memory)) (m .session)
-        z = measured (board .lpc) (length (m .flash)) (length (m .memory)) (m .session) (p .sounds)
+        z = measured setup (length (m .flash)) (length (m .memory)) (m .session) (p .sounds)
 
         same : (k ≡ 7) ⊎ (k ≡ 10)
             → length (erased (toBytes (blocksNamed (m .session) registers .start)) (toBytes (blocksNamed (m .session) registers .count)) (m .memory)) ≡ length (m .memory)
@@ -250,7 +253,7 @@ module _ (board : Board) (first size long : ℕ) (flash : List ℕ) (room : toBy
             erased-length (toBytes (blocksNamed (m .session) registers .start)) (toBytes (blocksNamed (m .session) registers .count)) (m .memory)
             (omega (arith, n, z .fits .in-memory, z .memory-sized .whole))
 
-    answered-open : (r : Reason) → reasonFor board (m .session) registers (length (m .flash)) (length (m .memory)) ≡ r → Open first size long flash (left r)
+    answered-open : (r : Reason) → reasonFor setup (m .session) registers (length (m .flash)) (length (m .memory)) ≡ r → Open first size long flash (left r)
     unfolding answerTo
     answered-open Accepted e = accepted-open e
     answered-open System e = o
@@ -259,22 +262,22 @@ module _ (board : Board) (first size long : ℕ) (flash : List ℕ) (room : toBy
     answered-open Suspended e = refused-same
     answered-open Windowless e = refused-same
     answered-open Argument e =
-        subst (λ (t : Bool). Open first size long flash (machine (cond t
-        (closing (codeFor (m .session .version) Argument) (numbered (m .session) registers) registers (m .flash) (m .memory))
-        (refused (codeFor (m .session .version) Argument) (numbered (m .session) registers) registers (m .flash) (m .memory))))) (sym not-create) refused-same
+        subst (λ (t : Bool). Open first size long flash (cond t
+        (closing (codeFor (m .session .version) Argument) registers (numberedIn registers m))
+        (refused (codeFor (m .session .version) Argument) registers (numberedIn registers m)) .machine)) (sym not-create) refused-same
 
-    sent-open : Open first size long flash (sent board registers m)
+    sent-open : Open first size long flash (sent setup registers m)
     sent-open =
-        subst (λ (x : Outcome). Open first size long flash (machine x))
-        (sym (mediate-as board (m .session) registers (m .flash) (m .memory) (reasonFor board (m .session) registers (length (m .flash)) (length (m .memory))) refl))
-        (answered-open (reasonFor board (m .session) registers (length (m .flash)) (length (m .memory))) refl)
+        subst (λ (x : Outcome). Open first size long flash (x .machine))
+        (sym (mediate-as setup registers m (reasonFor setup (m .session) registers (length (m .flash)) (length (m .memory))) refl))
+        (answered-open (reasonFor setup (m .session) registers (length (m .flash)) (length (m .memory))) refl)
 
-  call-open : (call : Call) → Allowed size call → (m : Machine) → Open first size long flash m → Open first size long flash (called board call m)
+  call-open : (call : Call) → Allowed size call → (m : Machine) → Open first size long flash m → Open first size long flash (called setup call m)
   call-open (send registers) w m o = sent-open m o registers (commandOf registers) refl w
   call-open (write at bytes) w m o =
       kept-open m o (m .session) refl refl refl refl refl (replace at bytes (m .memory))
       (replace-length at bytes (m .memory) (omega (arith, o .memory-long)))
 
-  pub calls-open : (calls : List Call) → AllAllowed size calls → (m : Machine) → Open first size long flash m → Open first size long flash (calledAll board calls m)
+  pub calls-open : (calls : List Call) → AllAllowed size calls → (m : Machine) → Open first size long flash m → Open first size long flash (calledAll setup calls m)
   calls-open [] w m o = o
-  calls-open (call ∷ calls) w m o = calls-open calls (w .1) (called board call m) (call-open call (w .0) m o)
+  calls-open (call ∷ calls) w m o = calls-open calls (w .1) (called setup call m) (call-open call (w .0) m o)

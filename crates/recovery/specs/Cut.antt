@@ -1,14 +1,16 @@
 -- The first list of demand 3, up to the cut: document 00, demand 3, and document 01, "Chip actions".
-use Prim.Native.Nat.{ℕ, _+_, _-_, _/_, _<_}
-use mathlib.Core.Bool.{Bool, true, false, cond, not, _&&_, _||_}
+use Prim.Native.Nat.{ℕ, _+_, _-_, _<_}
+use mathlib.Core.Bool.{Bool, true, false, cond, not, _&&_}
 use mathlib.Core.List.{List, [], _∷_}
 use mathlib.Core.Path.{_≡_}
-use lib.Dec.{leb, ltb, eqb}
+use lib.Dec.{leb, ltb}
 use lib.ListN.{length, getD, take}
-use Rattle.units.specs.Units.{blockBytes, toBytes}
+use Rattle.units.specs.Units.{toBytes, blockHolding}
 use Rattle.session.specs.declared.Session.{Session}
+use Rattle.session.specs.Machine.{Machine, lent, holding}
+use Rattle.session.specs.Marks.{isMarked}
+use Rattle.session.specs.Record.{withAccess}
 use Rattle.session.specs.Suspension.{suspended, resumed}
-use Rattle.flush.specs.Actions.{dirty, erasedMark}
 use Rattle.flush.specs.Cut.{passed, ahead, progress, blockAt, leaves}
 use Rattle.flush.specs.Window.{windowActions, windowPart, partEnd, advanced}
 
@@ -16,11 +18,9 @@ use Rattle.flush.specs.Window.{windowActions, windowPart, partEnd, advanced}
 pub data Event : Type 0 where
   step suspend resume : Event
 
--- what a call finds and leaves: the session, both buffers, and the count j
+-- what a call finds and leaves, and the count j
 pub record State : Type 0 where
-  pub session : Session
-  pub flash : List ℕ
-  pub memory : List ℕ
+  pub machine : Machine
   pub count : ℕ
 
 -- what is answered: to a step a code with yes or no, to a suspend or resume yes or no
@@ -36,22 +36,17 @@ counted N isSuspended j = cond (not isSuspended && ltb j N) (j + 1) j
 abbrev pub after : ℕ → Event → State → State
 after N step s =
     record {
-      session = s .session;
-      flash = advanced (s .session) (s .memory) (s .count) (s .flash) .flash;
-      memory = s .memory;
-      count = counted N (s .session .suspended) (s .count);
+      machine = lent (s .machine .session) (advanced (s .machine) (s .count) .flash) (s .machine .memory);
+      count = counted N (s .machine .session .suspended) (s .count);
     }
-after N suspend s =
-    record { session = suspended (s .session) .session; flash = s .flash; memory = s .memory; count = s .count }
-after N resume s =
-    record { session = resumed (s .session) .session; flash = s .flash; memory = s .memory; count = s .count }
+after N suspend s = record { machine = holding (suspended (s .machine .session) .session) (s .machine); count = s .count }
+after N resume s = record { machine = holding (resumed (s .machine .session) .session) (s .machine); count = s .count }
 
 -- its answer
 abbrev pub answer : Event → State → Said
-answer step s =
-    stepped (advanced (s .session) (s .memory) (s .count) (s .flash) .code) (advanced (s .session) (s .memory) (s .count) (s .flash) .yes)
-answer suspend s = told (suspended (s .session) .done)
-answer resume s = told (resumed (s .session) .done)
+answer step s = stepped (advanced (s .machine) (s .count) .code) (advanced (s .machine) (s .count) .yes)
+answer suspend s = told (suspended (s .machine .session) .done)
+answer resume s = told (resumed (s .machine .session) .done)
 
 -- a list of events: "every call gets what the one before left"
 abbrev pub afterAll : ℕ → List Event → State → State
@@ -84,50 +79,42 @@ abbrev pub actionsOf : Session → ℕ
 actionsOf s = length (windowActions s)
 
 -- the state at the first list's start
-abbrev pub start : Session → List ℕ → List ℕ → State
-start s flash memory = record { session = s; flash = flash; memory = memory; count = 0 }
+abbrev pub start : Machine → State
+start m = record { machine = m; count = 0 }
 
 -- and after the list, where the cut falls
-abbrev pub cut : Session → List ℕ → List ℕ → List Event → State
-cut s flash memory events = afterAll (actionsOf s) events (start s flash memory)
-
--- a mark that asks for actions
-abbrev pub isMarked : ℕ → Bool
-isMarked mark = eqb mark dirty || eqb mark erasedMark
+abbrev pub cut : Machine → List Event → State
+cut m events = afterAll (actionsOf (m .session)) events (start m)
 
 -- the byte of the flash at x lies in a marked block
 abbrev pub inMarked : Session → ℕ → Bool
 inMarked s x =
     leb (toBytes (s .first)) x
-    && (ltb x (partEnd s) && isMarked (getD (s .marks) ((x - toBytes (s .first)) / blockBytes) 0))
+    && (ltb x (partEnd s) && isMarked (getD (s .marks) (blockHolding (x - toBytes (s .first))) 0))
 
--- the same window, marks, version and previous number
-pub record Kept (s t : Session) : Type 0 where
-  pub version : t .version ≡ s .version
-  pub previous : t .previous ≡ s .previous
-  pub window : t .window ≡ s .window
-  pub first : t .first ≡ s .first
-  pub size : t .size ≡ s .size
-  pub marks : t .marks ≡ s .marks
+-- a session that differs in its suspension and event byte alone
+abbrev pub Kept : Session → Session → Type 0
+Kept s t = t ≡ withAccess (t .suspended) (t .events) s
 
--- what holds at the cut
-pub record AtCut (s : Session) (flash memory : List ℕ) (events : List Event) : Type 0 where
+-- what holds at the cut, of the machine at the first list's start
+pub record AtCut (m : Machine) (events : List Event) : Type 0 where
   -- "For every such list the answers are those of document 01"
-  pub answered : answers (actionsOf s) events (start s flash memory) ≡ expected (actionsOf s) events (s .suspended) 0
+  pub answered : answers (actionsOf (m .session)) events (start m) ≡ expected (actionsOf (m .session)) events (m .session .suspended) 0
   -- "It holds what its actions among the first j make of its old bytes"
-  pub blocks : (b : ℕ) → b < s .size
-      → blockAt b (windowPart s (cut s flash memory events .flash))
-      ≡ leaves memory b (take (cut s flash memory events .count) (windowActions s)) (windowPart s flash)
+  pub blocks : (b : ℕ) → b < m .session .size
+      → blockAt b (windowPart (m .session) (cut m events .machine .flash))
+      ≡ leaves (m .memory) b (take (cut m events .count) (windowActions (m .session))) (windowPart (m .session) (m .flash))
   -- "Marked blocks already passed are finished", "finished is what all of them make"
-  pub finished : (b : ℕ) → b < s .size → progress b (cut s flash memory events .count) (windowActions s) ≡ passed
-      → blockAt b (windowPart s (cut s flash memory events .flash)) ≡ leaves memory b (windowActions s) (windowPart s flash)
+  pub finished : (b : ℕ) → b < m .session .size → progress b (cut m events .count) (windowActions (m .session)) ≡ passed
+      → blockAt b (windowPart (m .session) (cut m events .machine .flash))
+      ≡ leaves (m .memory) b (windowActions (m .session)) (windowPart (m .session) (m .flash))
   -- "those still ahead are old"
-  pub old : (b : ℕ) → b < s .size → progress b (cut s flash memory events .count) (windowActions s) ≡ ahead
-      → blockAt b (windowPart s (cut s flash memory events .flash)) ≡ blockAt b (windowPart s flash)
+  pub old : (b : ℕ) → b < m .session .size → progress b (cut m events .count) (windowActions (m .session)) ≡ ahead
+      → blockAt b (windowPart (m .session) (cut m events .machine .flash)) ≡ blockAt b (windowPart (m .session) (m .flash))
   -- "every other byte is as before"
-  pub others : (x : ℕ) → inMarked s x ≡ false → getD (cut s flash memory events .flash) x 0 ≡ getD flash x 0
-  pub flash-size : length (cut s flash memory events .flash) ≡ length flash
+  pub others : (x : ℕ) → inMarked (m .session) x ≡ false → getD (cut m events .machine .flash) x 0 ≡ getD (m .flash) x 0
+  pub flash-size : length (cut m events .machine .flash) ≡ length (m .flash)
   -- the session and the window memory
-  pub session : cut s flash memory events .session ≡ accessAfter events s
-  pub kept : Kept s (cut s flash memory events .session)
-  pub memory-same : cut s flash memory events .memory ≡ memory
+  pub session : cut m events .machine .session ≡ accessAfter events (m .session)
+  pub kept : Kept (m .session) (cut m events .machine .session)
+  pub memory-same : cut m events .machine .memory ≡ m .memory

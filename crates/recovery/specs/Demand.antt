@@ -2,12 +2,9 @@
 use mathlib.Core.Path.{_≡_}
 use mathlib.Core.Bool.{true}
 use mathlib.Core.List.{List}
-use Prim.Native.Nat.{ℕ}
-use lib.ListN.{length}
-use Rattle.session.specs.declared.Session.{Session}
 use Rattle.session.specs.declared.Window.the-variants.{Write}
-use Rattle.session.specs.Soundness.{soundAt}
-use Rattle.refusals.specs.declared.Board.{Board}
+use Rattle.session.specs.Machine.{Setup, Machine}
+use Rattle.session.specs.Soundness.{soundIn}
 use Rattle.recovery.specs.Cut.{Event, cut, AtCut}
 use Rattle.recovery.specs.Second.{Way, Succeeds, SecondRun, StepsSucceed, secondEnd, secondFlash, unstopped, AddsNone, unstoppedFlash}
 
@@ -15,12 +12,10 @@ use Rattle.recovery.specs.Second.{Way, Succeeds, SecondRun, StepsSucceed
 -- equals that of the flush never stopped"; where a run flushes by steps, each of them succeeds
 abbrev pub Demand3 : Type 0
 Demand3 =
-    (board : Board) (s : Session) (flash memory : List ℕ)
-    → soundAt (board .lpc) (length flash) (length memory) s ≡ true → s .window ≡ Write
+    (setup : Setup) (m : Machine) → soundIn setup m ≡ true → m .session .window ≡ Write
     → (events : List Event)
-    → AtCut s flash memory events
-    × ((second : SecondRun board s (cut s flash memory events .flash) memory) (way : Way)
-    → Succeeds board way (unstopped s flash memory) → AddsNone way s
-    → (secondFlash board s (cut s flash memory events .flash) memory second ≡ unstoppedFlash board way s flash memory)
-    × StepsSucceed (secondEnd board s (cut s flash memory events .flash) memory second)
-    × StepsSucceed (unstopped s flash memory))
+    → AtCut m events
+    × ((second : SecondRun setup m (cut m events .machine .flash)) (way : Way) → Succeeds setup way (unstopped m) → AddsNone way (m .session)
+    → (secondFlash setup m (cut m events .machine .flash) second ≡ unstoppedFlash setup way m)
+    × StepsSucceed (secondEnd setup m (cut m events .machine .flash) second)
+    × StepsSucceed (unstopped m))

@@ -1,3 +1,4 @@
 pub mod Cut
 pub mod Demand
+pub mod Recipe
 pub mod Second

@@ -1,0 +1,393 @@
+-- The recovery of specs/Recipe.antt is a second run, whatever the session and the cut: `recovers`.
+use mathlib.Core.Path.{_≡_, refl, sym, ap, _∙_, subst}
+use mathlib.Core.Bool.{true}
+use mathlib.Core.List.{List, [], _∷_, _++_, append-nil}
+use mathlib.Core.Logic.{inl, inr, ⊎-elim}
+use Prim.Native.Nat.{ℕ, suc, _+_, _-_, _/_, _≤_, _<_}
+use native.Mathlib.Omega.{arith}
+use lib.Dec.{leb, eqb}
+use lib.ListN.{length, getD, take, drop, replicate}
+use lib.Seq.{drop-cons, take-all}
+use borrow.Author.Tests.{leb-true, eqb-true, eqb-false}
+use Rattle.units.specs.Units.{blockBytes, toBytes, roundUp}
+use Rattle.units.proofs.Cases.{both, chosen, below-or}
+use Rattle.buffers.specs.Ranges.{replace}
+use Rattle.buffers.proofs.Replace.{range-length, range-at, replace-before, replace-inside}
+use Rattle.chip.specs.Actions.{erased}
+use Rattle.chip.proofs.Laws.{erased-outside}
+use Rattle.session.specs.declared.Session.{Session}
+use Rattle.session.specs.declared.Previous.the-variants.{Number}
+use Rattle.session.specs.declared.Window.{Window}
+use Rattle.session.specs.declared.Window.the-variants.{Write}
+use Rattle.session.specs.Machine.{Setup, Machine, lent}
+use Rattle.session.specs.Record.{fresh, withVersion, withWindow}
+use Rattle.session.specs.Soundness.{activeSound, windowSound, markable, marksSound, sound, soundAt}
+use Rattle.session.proofs.Facts.{refitted-at, part-within}
+use Rattle.session.specs.Marks.{dirty, erasedMark}
+use Rattle.registers.specs.Registers.{sequenceOf, number}
+use Rattle.refusals.proofs.Accepting.{Measured, measured}
+use Rattle.mailbox.specs.Commands.{numbered, sizeFor}
+use Rattle.recovery.specs.Cut.{cut}
+use Rattle.recovery.specs.Recipe.{getInfo, reopen, markDirty, markErased, former, restored, restoredFrom, recipe, flushAll, ByRecipe, Recovers}
+use Rattle.recovery.specs.Second.{response, sent, Call, send, write, AllAllowed, called, calledAll, Way, bySteps, byFlush, Succeeds, begun, agreeing, opening, marking}
+use Rattle.recovery.proofs.Demand.{demand-3}
+use Rattle.recovery.proofs.FirstList.{marks-sound}
+use Rattle.recovery.proofs.MarksAgain.{mark-most, mark-past, front-sound, mark-more, mark-none}
+use Rattle.recovery.proofs.SecondList.{info-leaves, create-opens, Open, calls-open}
+use Rattle.recovery.proofs.Sending.{word, hinted, info-taken, Serving, markedAs, create-taken, create-session, dirty-sent, erase-sent, flush-taken}
+
+-- ---- lists of calls one after the other
+append-allowed : (n : ℕ) (xs ys : List Call) → AllAllowed n xs → AllAllowed n ys → AllAllowed n (xs ++ ys)
+append-allowed n [] ys p q = q
+append-allowed n (x ∷ xs) ys p q = (p .0, append-allowed n xs ys (p .1) q)
+
+append-called : (setup : Setup) (xs ys : List Call) (m : Machine) → calledAll setup (xs ++ ys) m ≡ calledAll setup ys (calledAll setup xs m)
+append-called setup [] ys m = refl
+append-called setup (x ∷ xs) ys m = append-called setup xs ys (called setup x m)
+
+-- a mark that is none of the two
+neither : (mark : ℕ) → mark ≤ 2 → (mark ≡ 1 → ⊥) → (mark ≡ 2 → ⊥) → mark ≡ 0
+neither mark h p q = omega arith
+
+module _ (setup : Setup) (s : Session) (flash memory : List ℕ) (sounds : soundAt setup (length flash) (length memory) s ≡ true) (w : s .window ≡ Write)
+    (many : length (s .marks) ≡ 64) where
+  -- what the session and the sizes tell
+  d : Measured (length flash) (length memory) s
+  d = measured setup (length flash) (length memory) s sounds
+
+  fine : marksSound (s .size) (s .marks) ≡ true
+  fine = marks-sound s flash memory (d .sound) w
+
+  room : toBytes (s .size) ≤ length memory
+  room = part-within (length flash) (length memory) s (d .sound) .1
+
+  active : activeSound (s .first) (s .size) (roundUp (length flash)) (roundUp (length memory)) ≡ true
+  active = subst (λ (k : Window). windowSound k (s .first) (s .size) (roundUp (length flash)) (roundUp (length memory)) ≡ true) w (d .fits .window)
+
+  some : 1 ≤ s .size
+  some = leb-true 1 (s .size) (both (leb 1 (s .size)) _ active .0)
+
+  few : s .size ≤ 64
+  few = omega (arith, d .fits .in-memory, d .memory-sized .few)
+
+  low : s .first + s .size ≤ 65535
+  low = omega (arith, d .fits .in-flash, d .flash-sized .few)
+
+  -- another session on buffers as long is sound too
+  refit : (f x : ℕ) (t : Session) → f ≡ length flash → x ≡ length memory → t .version ≤ 2
+      → windowSound (t .window) (t .first) (t .size) (roundUp (length flash)) (roundUp (length memory)) ≡ true
+      → marksSound (markable (t .window) (t .size)) (t .marks) ≡ true → soundAt setup f x t ≡ true
+  refit f x t p q v k ms = rw (p, q) (refitted-at setup (length flash) (length memory) s t sounds v k ms)
+
+  -- a window memory has the former bytes of the dirty ones among the first b blocks
+  abbrev Held : ℕ → List ℕ → Type 0
+  Held b bytes = (x : ℕ) → x < toBytes b → getD (s .marks) (x / blockBytes) 0 ≡ dirty → getD bytes x 0 ≡ getD memory x 0
+
+  -- ---- between two blocks of the recipe: the first b are done, k are ahead
+  record Ready (b k : ℕ) (m : Machine) : Type 0 where
+    opened : Open (s .first) (s .size) (length memory) flash m
+    number : ℕ
+    previous : m .session .previous ≡ Number number
+    earlier : number < 2 + b
+    marks : m .session .marks ≡ take b (s .marks) ++ replicate k 0
+    held : Held b (m .memory)
+
+  -- such a machine takes the next number, also with other bytes in its window
+  serving : (b k : ℕ) (m : Machine) (r : Ready b k m) (n : Machine) → n .session ≡ m .session → Open (s .first) (s .size) (length memory) flash n
+      → Serving setup (r .number) n
+  serving b k m r n same o =
+      record {
+        sounds =
+            refit (length (n .flash)) (length (n .memory)) (n .session) (ap length (o .flash-is)) (o .memory-long) (omega (arith, o .agreed))
+            (rw (o .window, o .first-is, o .size-is) active)
+            (rw (o .window, o .size-is, same, r .marks) (front-sound (s .size) b k (s .marks) fine));
+        agreed = o .agreed;
+        awake = o .awake;
+        previous = ap (λ (t : Session). t .previous) same ∙ r .previous;
+      }
+
+  -- the window stays open
+  opens : (calls : List Call) → AllAllowed (s .size) calls → (m : Machine) → Open (s .first) (s .size) (length memory) flash m
+      → Open (s .first) (s .size) (length memory) flash (calledAll setup calls m)
+  opens = calls-open setup (s .first) (s .size) (length memory) flash room
+
+  -- what a list of calls does for some blocks
+  record Carries (b k c l : ℕ) (calls : List Call) : Type 0 where
+    allowed : AllAllowed (s .size) calls
+    goes : (m : Machine) → Ready b k m → Ready c l (calledAll setup calls m)
+
+  -- a marked block lies in the window
+  within : (b mark : ℕ) → getD (s .marks) b 0 ≡ suc mark → b < s .size
+  within b mark e =
+      ⊎-elim
+      (λ (h : b < s .size). h)
+      (λ (h : s .size ≤ b). let z = mark-past (s .size) b (s .marks) fine h in absurd (omega arith))
+      (below-or b (s .size))
+
+  -- ---- one block
+  module _ (b k : ℕ) (all : b + suc k ≡ 64) where
+    there : b < length (s .marks)
+    there = omega arith
+
+    small : b < 65536
+    small = omega arith
+
+    -- one block more is held, if the bytes before it stay and those of a dirty one are the former ones
+    held-more : (old new : List ℕ) → Held b old → ((x : ℕ) → x < toBytes b → getD new x 0 ≡ getD old x 0)
+        → ((x : ℕ) → toBytes b ≤ x → x < toBytes (suc b) → getD (s .marks) b 0 ≡ dirty → getD new x 0 ≡ getD memory x 0) → Held (suc b) new
+    held-more old new h before here x l e =
+        ⊎-elim
+        (λ (p : x < toBytes b). before x p ∙ h x p e)
+        (λ (p : toBytes b ≤ x).
+        let i : x / blockBytes ≡ b = omega arith in
+        here x p l (ap (λ (j : ℕ). getD (s .marks) j 0) (sym i) ∙ e))
+        (below-or x (toBytes b))
+
+    -- a clean one
+    clean-block : getD (s .marks) b 0 ≡ 0 → Carries b (suc k) (suc b) k []
+    clean-block e =
+        record {
+          allowed = tt;
+          goes =
+              λ m r.
+              record {
+                opened = r .opened;
+                number = r .number;
+                previous = r .previous;
+                earlier = omega (arith, r .earlier);
+                marks = r .marks ∙ mark-none (s .marks) b k there e;
+                held = held-more (m .memory) (m .memory) (r .held) (λ x h. refl) (λ x l h d. absurd (omega arith));
+              };
+        }
+
+    -- after the command that marks it
+    marked-block : (m n : Machine) → Ready b (suc k) m → (registers : List ℕ) (mark : ℕ) (bytes : List ℕ) → getD (s .marks) b 0 ≡ mark
+        → n ≡ markedAs m registers (replace b (mark ∷ []) (m .session .marks)) bytes → sequenceOf registers ≡ 2 + b
+        → Open (s .first) (s .size) (length memory) flash n → Held (suc b) bytes → Ready (suc b) k n
+    marked-block m n r registers mark bytes e left q o h =
+        record {
+          opened = o;
+          number = 2 + b;
+          previous = ap (λ (x : Machine). x .session .previous) left ∙ ap Number q;
+          earlier = omega arith;
+          marks =
+              ap (λ (x : Machine). x .session .marks) left ∙ ap (replace b (mark ∷ [])) (r .marks) ∙ mark-more (s .marks) b k there mark e;
+          held = subst (λ (x : Machine). Held (suc b) (x .memory)) (sym left) h;
+        }
+
+    -- a marked block is one of the window that is open
+    reach : (m : Machine) → Open (s .first) (s .size) (length memory) flash m → (mark : ℕ) → getD (s .marks) b 0 ≡ suc mark → b < m .session .size
+    reach m o mark e = rw (o .size-is) (within b mark e)
+
+    -- a dirty one: its former bytes are written, then it is marked
+    module _ (e : getD (s .marks) b 0 ≡ dirty) where
+      inside : toBytes b + blockBytes ≤ toBytes (s .size)
+      inside = let h = within b 0 e in omega arith
+
+      long : length (former memory b) ≡ blockBytes
+      unfolding former
+      long = range-length (toBytes b) blockBytes memory (omega (arith, inside, room))
+
+      former-at : (j : ℕ) → j < blockBytes → getD (former memory b) j 0 ≡ getD memory (toBytes b + j) 0
+      unfolding former
+      former-at j h = range-at (toBytes b) blockBytes memory j h
+
+      dirty-allowed : AllAllowed (s .size) (write (toBytes b) (former memory b) ∷ send (markDirty b) ∷ [])
+      dirty-allowed = (omega (arith, long, inside), (inl refl, tt))
+
+      dirty-held : (m : Machine) → Ready b (suc k) m → Held (suc b) (replace (toBytes b) (former memory b) (m .memory))
+      dirty-held m r =
+          held-more (m .memory) (replace (toBytes b) (former memory b) (m .memory)) (r .held)
+          (λ x h. replace-before (toBytes b) (former memory b) (m .memory) fits x 0 h) here
+        where
+          fits : toBytes b + length (former memory b) ≤ length (m .memory)
+          fits = omega (arith, long, inside, room, r .opened .memory-long)
+
+          here : (x : ℕ) → toBytes b ≤ x → x < toBytes (suc b) → getD (s .marks) b 0 ≡ dirty
+              → getD (replace (toBytes b) (former memory b) (m .memory)) x 0 ≡ getD memory x 0
+          here x l h d =
+              let place : toBytes b + (x - toBytes b) ≡ x = omega arith in
+              ap (λ (i : ℕ). getD (replace (toBytes b) (former memory b) (m .memory)) i 0) (sym place)
+              ∙ replace-inside (toBytes b) (former memory b) (m .memory) fits (x - toBytes b) 0 (omega (arith, long))
+              ∙ former-at (x - toBytes b) (omega arith)
+              ∙ ap (λ (i : ℕ). getD memory i 0) place
+
+      dirty-block : Carries b (suc k) (suc b) k (write (toBytes b) (former memory b) ∷ send (markDirty b) ∷ [])
+      dirty-block =
+          record {
+            allowed = dirty-allowed;
+            goes =
+                λ m r.
+                let n : Machine = called setup (write (toBytes b) (former memory b)) m in
+                let o = opens (write (toBytes b) (former memory b) ∷ []) (dirty-allowed .0, tt) m (r .opened) in
+                let left = dirty-sent setup (r .number) n (serving b (suc k) m r n refl o) (markDirty b) (r .earlier) (o .window) b (word b small) refl (reach n o 0 e) refl in
+                marked-block m (sent setup (markDirty b) n) r (markDirty b) dirty (n .memory) e left refl
+                (opens (write (toBytes b) (former memory b) ∷ send (markDirty b) ∷ []) dirty-allowed m (r .opened)) (dirty-held m r);
+          }
+
+    -- an erased one
+    erased-block : getD (s .marks) b 0 ≡ erasedMark → Carries b (suc k) (suc b) k (send (markErased b) ∷ [])
+    erased-block e =
+        record {
+          allowed = (inr refl, tt);
+          goes =
+              λ m r.
+              let o = r .opened in
+              let left = erase-sent setup (r .number) m (serving b (suc k) m r m refl o) (markErased b) (r .earlier) (o .window) b (word b small) refl (reach m o 1 e) refl in
+              marked-block m (sent setup (markErased b) m) r (markErased b) erasedMark (erased (toBytes b) blockBytes (m .memory)) e left refl
+              (opens (send (markErased b) ∷ []) (inr refl, tt) m o)
+              (held-more (m .memory) (erased (toBytes b) blockBytes (m .memory)) (r .held)
+              (λ x h. erased-outside (toBytes b) blockBytes (m .memory) (omega (arith, room, within b 1 e, o .memory-long)) x (inl h))
+              (λ x l h d. absurd (omega arith)));
+        }
+
+    -- a block with any mark
+    block : Carries b (suc k) (suc b) k (restored memory b (getD (s .marks) b 0))
+    block =
+        let mark = getD (s .marks) b 0 in
+        chosen (Carries b (suc k) (suc b) k) (eqb mark dirty) _ _ (λ t. dirty-block (eqb-true mark dirty t)) (λ n1.
+        chosen (Carries b (suc k) (suc b) k) (eqb mark erasedMark) _ _ (λ t. erased-block (eqb-true mark erasedMark t)) (λ n2.
+        clean-block (neither mark (mark-most (s .size) b (s .marks) fine) (eqb-false mark dirty n1) (eqb-false mark erasedMark n2))))
+
+  -- ---- the blocks in turn
+  blocks : (b : ℕ) (rest : List ℕ) → drop b (s .marks) ≡ rest → b + length rest ≡ 64
+      → Carries b (length rest) 64 0 (restoredFrom memory b rest)
+  blocks b [] e all = record { allowed = tt; goes = λ m r. subst (λ (c : ℕ). Ready c 0 m) (omega arith) r }
+  blocks b (mark ∷ rest) e all =
+      let others = blocks (suc b) rest tail (omega arith) in
+      record {
+        allowed = append-allowed (s .size) (restored memory b mark) (restoredFrom memory (suc b) rest) (this .allowed) (others .allowed);
+        goes =
+            λ m r.
+            subst (Ready 64 0) (sym (append-called setup (restored memory b mark) (restoredFrom memory (suc b) rest) m))
+            (others .goes (calledAll setup (restored memory b mark) m) (this .goes m r));
+      }
+    where
+      split : getD (s .marks) b 0 ∷ drop (suc b) (s .marks) ≡ mark ∷ rest
+      split = sym (drop-cons (s .marks) b 0 (there b (length rest) all)) ∙ e
+
+      first : getD (s .marks) b 0 ≡ mark
+      first = cc split
+
+      this : Carries b (suc (length rest)) (suc b) (length rest) (restored memory b mark)
+      this = subst (λ (x : ℕ). Carries b (suc (length rest)) (suc b) (length rest) (restored memory b x)) first (block b (length rest) all)
+
+      tail : drop (suc b) (s .marks) ≡ rest
+      tail = cc split
+
+  -- ---- the window is opened again, on a machine that was found with some other window memory
+  module _ (other : List ℕ) (other-size : length other ≡ length memory) where
+    -- GET_INFO
+    info-ok : response setup getInfo (begun flash other) ≡ 1
+    info-ok = info-taken setup flash other (refit (length flash) (length other) fresh refl other-size (omega arith) refl refl)
+
+    abbrev agreed : Machine
+    agreed = lent (withVersion 2 (numbered fresh getInfo)) flash other
+
+    left : agreeing setup getInfo flash other ≡ agreed
+    left = info-leaves setup getInfo flash other refl info-ok
+
+    -- CREATE_WRITE_WINDOW
+    record Reopened (m : Machine) : Type 0 where
+      taken : response setup (reopen s) m ≡ 1
+      ready : Ready 0 64 (sent setup (reopen s) m)
+
+    reopened : Reopened agreed
+    reopened =
+        record {
+          taken = taken;
+          ready =
+              record {
+                opened =
+                    subst (λ (n : ℕ). Open (s .first) (s .size) n flash (sent setup (reopen s) agreed)) other-size
+                    (create-opens setup (agreed .session) (reopen s) flash other refl taken refl (s .first) (s .size) refl refl
+                    (ap (λ (t : Session). t .first) window) (ap (λ (t : Session). t .size) window));
+                number = 1;
+                previous = ap (λ (t : Session). t .previous) window;
+                earlier = omega arith;
+                marks = ap (λ (t : Session). t .marks) window;
+                held = λ x h. absurd (omega arith);
+              };
+        }
+      where
+        serves : Serving setup 0 agreed
+        serves =
+            record {
+              sounds = refit (length flash) (length other) (agreed .session) refl other-size (omega arith) refl refl;
+              agreed = refl;
+              awake = refl;
+              previous = refl;
+            }
+
+        first-word : number 2 0 (reopen s) ≡ s .first
+        first-word = word (s .first) (omega (arith, low))
+
+        within-flash : number 2 0 (reopen s) < roundUp (length flash)
+        within-flash = rw first-word (omega (arith, some, d .fits .in-flash))
+
+        taken : response setup (reopen s) agreed ≡ 1
+        taken = create-taken setup 0 agreed serves (reopen s) (omega arith) refl within-flash
+
+        window : sent setup (reopen s) agreed .session ≡ withWindow Write (s .first) (s .size) (numbered (agreed .session) (reopen s))
+        window =
+            create-session setup 0 agreed serves (reopen s) (omega arith) refl within-flash (s .first) (s .size) first-word
+            (ap (sizeFor (roundUp (length flash)) (roundUp (length other)) (s .first)) (word (s .size) (omega (arith, few)))
+            ∙ hinted (roundUp (length flash)) (roundUp (length other)) (s .first) (s .size) some (rw other-size (d .fits .in-memory)) (d .fits .in-flash))
+
+    -- the list, and FLUSH
+    again : Reopened (agreeing setup getInfo flash other)
+    again = subst Reopened (sym left) reopened
+
+    carried : Carries 0 64 64 0 (recipe s memory)
+    carried = subst (λ (n : ℕ). Carries 0 n 64 0 (recipe s memory)) many (blocks 0 (s .marks) refl (omega arith))
+
+    abbrev end : Machine
+    end = marking setup getInfo (reopen s) (recipe s memory) flash other
+
+    ended : Ready 64 0 end
+    ended = carried .goes (opening setup getInfo (reopen s) flash other) (again .ready)
+
+    flushes : Succeeds setup (byFlush flushAll) end
+    flushes = (refl, flush-taken setup (ended .number) end (serving 64 0 end ended end refl (ended .opened)) flushAll (ended .earlier) refl (ended .opened .window))
+
+    second : (flash₀ : List ℕ) (way : Way) → Succeeds setup way end → ByRecipe setup (lent s flash₀ memory) flash other way
+    second flash₀ way ok =
+        record {
+          run =
+              record {
+                other = other;
+                other-size = other-size;
+                info = getInfo;
+                info-is = refl;
+                info-succeeds = info-ok;
+                agreed = ap (λ (m : Machine). m .session .version) left;
+                create = reopen s;
+                create-is = refl;
+                create-succeeds = again .taken;
+                same-first = again .ready .opened .first-is;
+                same-size = again .ready .opened .size-is;
+                calls = recipe s memory;
+                allowed = carried .allowed;
+                same-marks = ended .marks ∙ append-nil (take 64 (s .marks)) ∙ take-all 64 (s .marks) (omega arith);
+                same-bytes = λ x p. let e = eqb-true (getD (s .marks) (x / blockBytes) 0) dirty p in ended .held x (let h = within (x / blockBytes) 0 e in omega (arith, few)) e;
+                way = way;
+                way-succeeds = ok;
+              };
+          other-is = refl;
+          info-is = refl;
+          create-is = refl;
+          calls-are = refl;
+          way-is = refl;
+        }
+
+-- the statement stands in specs/Recipe.antt
+pub recovers : Recovers
+recovers setup m sounds w many events other other-size =
+    let s = m .session in
+    let memory = m .memory in
+    let f = cut m events .machine .flash in
+    let same : length f ≡ length (m .flash) = demand-3 setup m sounds w events .0 .flash-size in
+    let sounds₁ : soundAt setup (length f) (length memory) s ≡ true = ap (λ (n : ℕ). soundAt setup n (length memory) s) same ∙ sounds in (
+      second setup s f memory sounds₁ w many other other-size (m .flash) bySteps tt,
+      second setup s f memory sounds₁ w many other other-size (m .flash) (byFlush flushAll) (flushes setup s f memory sounds₁ w many other other-size),
+    )

@@ -1,0 +1,124 @@
+-- Commands of version 2 that are accepted: what each needs of the machine that it is sent to, and the machine that it leaves. Of the recipe's
+-- proof this file alone opens the mediator and the table of refusals.
+use mathlib.Core.Path.{_≡_, refl, ap, _∙_}
+use mathlib.Core.Bool.{Bool, true, false, not, _&&_, _||_, and-false}
+use mathlib.Core.List.{List, [], _∷_}
+use Prim.Native.Nat.{ℕ, _+_, _*_, _/_, _%_, _≤_, _<_}
+use native.Mathlib.Omega.{arith}
+use lib.Dec.{eqb}
+use lib.ListN.{length, getD, replicate}
+use borrow.Author.Tests.{le-leb, lt-leb, ne-eqb}
+use Rattle.units.specs.Units.{blockBytes, toBytes, roundUp}
+use Rattle.buffers.specs.Ranges.{replace}
+use Rattle.chip.specs.Actions.{erased}
+use Rattle.session.specs.declared.Previous.{Previous}
+use Rattle.session.specs.declared.Previous.the-variants.{Number}
+use Rattle.session.specs.declared.Window.the-variants.{Write}
+use Rattle.session.specs.Machine.{Setup, Machine, lent}
+use Rattle.session.specs.Record.{fresh, withMarks, withWindow}
+use Rattle.session.specs.Soundness.{soundAt}
+use Rattle.session.specs.Marks.{dirty, erasedMark}
+use Rattle.refusals.specs.declared.BlockRange.{BlockRange}
+use Rattle.refusals.specs.declared.Reason.the-variants.{Accepted}
+use Rattle.registers.specs.Registers.{commandOf, sequenceOf, number}
+use Rattle.refusals.specs.Refusals.{blocksNamed, known, isPrevious, windowless, argumentBroken, reasonFor}
+use Rattle.refusals.proofs.Accepting.{Passed}
+use Rattle.mailbox.specs.Commands.{Outcome, numbered, sizeFor}
+use Rattle.mailbox.specs.Mediator.{numberedIn, served, mediate}
+use Rattle.recovery.specs.Second.{response, sent, begun}
+use Rattle.recovery.specs.Recipe.{getInfo}
+use Rattle.recovery.proofs.SecondList.{carried}
+
+-- a 16-bit number is that of its two bytes
+pub word : (n : ℕ) → n < 65536 → n % 256 + 256 * (n / 256 % 256 + 256 * 0) ≡ n
+word n h = omega arith
+
+-- a window has the size of its hint, if that fits
+pub hinted : (S C o z : ℕ) → 1 ≤ z → z ≤ C → o + z ≤ S → sizeFor S C o z ≡ z
+hinted S C o z some few fits = rw (ne-eqb z 0 (omega arith)) (omega arith)
+
+-- a command that passes every check of the table is accepted, and leaves what its code says
+accepts : (setup : Setup) (m : Machine) (registers : List ℕ) → Passed setup (m .session) registers (length (m .flash)) (length (m .memory))
+    → reasonFor setup (m .session) registers (length (m .flash)) (length (m .memory)) ≡ Accepted
+unfolding reasonFor
+accepts setup m registers p = rw (p .sounds, p .fresh, p .knows, p .awake, p .windowed, p .argued)
+
+-- ---- GET_INFO on a fresh session
+pub info-taken : (setup : Setup) (flash memory : List ℕ) → soundAt setup (length flash) (length memory) fresh ≡ true
+    → response setup getInfo (begun flash memory) ≡ 1
+unfolding served
+info-taken setup flash memory e =
+    ap (λ (o : Outcome). getD (o .registers) 13 0)
+    (carried setup fresh getInfo flash memory 2 refl (accepts setup (begun flash memory) getInfo
+    (record { sounds = e; fresh = refl; knows = refl; awake = refl; windowed = refl; argued = refl })))
+
+-- ---- a machine that has agreed version 2 and is not suspended, and the last number that it was sent
+pub record Serving (setup : Setup) (last : ℕ) (m : Machine) : Type 0 where
+  pub sounds : soundAt setup (length (m .flash)) (length (m .memory)) (m .session) ≡ true
+  pub agreed : m .session .version ≡ 2
+  pub awake : m .session .suspended ≡ false
+  pub previous : m .session .previous ≡ Number last
+
+-- what a command leaves that marks: other marks and perhaps other window memory
+abbrev pub markedAs : Machine → List ℕ → List ℕ → List ℕ → Machine
+markedAs m registers marks memory = lent (withMarks marks (numbered (m .session) registers)) (m .flash) memory
+
+module _ (setup : Setup) (last : ℕ) (m : Machine) (s : Serving setup last m) (registers : List ℕ) (later : last < sequenceOf registers) where
+  -- such a machine takes a later number, where the window and the arguments are right
+  taken : (code : ℕ) → commandOf registers ≡ code → known 2 code ≡ true → windowless (m .session) registers ≡ false
+      → argumentBroken (m .session) registers (roundUp (length (m .flash))) ≡ false
+      → mediate setup registers m ≡ served code setup registers (numberedIn registers m)
+  taken code c k w a =
+      carried setup (m .session) registers (m .flash) (m .memory) code c
+      (accepts setup m registers
+      (record {
+        sounds = s .sounds;
+        fresh =
+            ap (λ (p : Previous). not (eqb (commandOf registers) 2) && isPrevious p (sequenceOf registers)) (s .previous)
+            ∙ ap (λ (t : Bool). not (eqb (commandOf registers) 2) && t) (ne-eqb (sequenceOf registers) last (omega arith))
+            ∙ and-false (not (eqb (commandOf registers) 2));
+        knows = rw (s .agreed, c) k;
+        awake = ap (λ (t : Bool). t && not (eqb (commandOf registers) 2 || eqb (commandOf registers) 9)) (s .awake);
+        windowed = w;
+        argued = a;
+      }))
+
+  -- ---- CREATE_WRITE_WINDOW at a block of the flash
+  module _ (c : commandOf registers ≡ 6) (within : number 2 0 registers < roundUp (length (m .flash))) where
+    opens : mediate setup registers m ≡ served 6 setup registers (numberedIn registers m)
+    opens = taken 6 c refl (rw c) (rw c (lt-leb (roundUp (length (m .flash))) (number 2 0 registers) within))
+
+    pub create-taken : response setup registers m ≡ 1
+    unfolding served
+    create-taken = ap (λ (x : Outcome). getD (x .registers) 13 0) opens ∙ rw (s .agreed)
+
+    pub create-session : (o z : ℕ) → number 2 0 registers ≡ o → sizeFor (roundUp (length (m .flash))) (roundUp (length (m .memory))) o (number 2 2 registers) ≡ z
+        → sent setup registers m .session ≡ withWindow Write o z (numbered (m .session) registers)
+    unfolding served
+    create-session o z first size = ap (λ (x : Outcome). x .machine .session) opens ∙ rw (s .agreed, first, size)
+
+  -- ---- MARK_DIRTY and ERASE of block b of a write window
+  module _ (w : m .session .window ≡ Write) (b : ℕ) (first : number 2 0 registers ≡ b) (second : number 2 2 registers ≡ 1) (within : b < m .session .size) where
+    named : blocksNamed (m .session) registers ≡ record { inside = true; start = b; count = 1 }
+    named = rw (s .agreed, first, second, le-leb (b + 1) (m .session .size) (omega arith))
+
+    inside : not (blocksNamed (m .session) registers .inside) ≡ false
+    inside = ap (λ (r : BlockRange). not (r .inside)) named
+
+    pub dirty-sent : commandOf registers ≡ 7 → sent setup registers m ≡ markedAs m registers (replace b (dirty ∷ []) (m .session .marks)) (m .memory)
+    unfolding served
+    dirty-sent c =
+        ap (λ (o : Outcome). o .machine) (taken 7 c refl (rw (c, w)) (rw c inside))
+        ∙ ap (λ (r : BlockRange). markedAs m registers (replace (r .start) (replicate (r .count) dirty) (m .session .marks)) (m .memory)) named
+
+    pub erase-sent : commandOf registers ≡ 10
+        → sent setup registers m ≡ markedAs m registers (replace b (erasedMark ∷ []) (m .session .marks)) (erased (toBytes b) blockBytes (m .memory))
+    unfolding served
+    erase-sent c =
+        ap (λ (o : Outcome). o .machine) (taken 10 c refl (rw (c, w)) (rw c inside))
+        ∙ ap (λ (r : BlockRange). markedAs m registers (replace (r .start) (replicate (r .count) erasedMark) (m .session .marks)) (erased (toBytes (r .start)) (toBytes (r .count)) (m .memory))) named
+
+  -- ---- FLUSH
+  pub flush-taken : commandOf registers ≡ 8 → m .session .window ≡ Write → response setup registers m ≡ 1
+  unfolding served
+  flush-taken c w = ap (λ (x : Outcome). getD (x .registers) 13 0) (taken 8 c refl (rw (c, w)) (rw (c, s .agreed)))
