@@ -8,36 +8,27 @@ use native.Mathlib.Omega.{arith}
 use lib.Dec.{leb, eqb}
 use lib.ListN.{length}
 use borrow.Author.Tests.{le-leb, eqb-true, eqb-false, not-false}
-use Rattle.units.proofs.Cases.{decided, chosen, both}
+use Rattle.units.proofs.Cases.{decided, chosen}
 use Rattle.units.specs.Units.{roundUp}
 use Rattle.session.specs.declared.Session.{Session}
 use Rattle.session.specs.declared.Window.{Window}
 use Rattle.session.specs.declared.Window.the-variants.{Closed, Read, Write}
-use Rattle.session.specs.Record.{clean, setBits, clearBits, dropWindow, fresh}
+use Rattle.session.specs.Machine.{Setup, lent}
+use Rattle.session.specs.Record.{clean, setBits, clearBits, withVersion, withAccess, withMarks, dropWindow, fresh}
 use Rattle.session.specs.Soundness.{activeSound, windowSound, markable, marksSound, sessionSound, sound, soundAt}
-use Rattle.session.proofs.Facts.{refitted}
-use Rattle.session.specs.Suspension.{controlLost, windowReset, withAccess, answer, suspended}
-use Rattle.flush.specs.Actions.{dirty, erasedMark}
-use Rattle.refusals.specs.declared.Board.{Board}
+use Rattle.session.proofs.Facts.{refitted-at}
+use Rattle.session.specs.Suspension.{controlLost, windowReset, answer, suspended}
+use Rattle.session.specs.Marks.{dirty, erasedMark}
 use Rattle.refusals.specs.declared.Reason.{Reason}
 use Rattle.refusals.specs.declared.Reason.the-variants.{Accepted, System, Repeated, Unknown, Suspended, Windowless, Argument}
-use Rattle.refusals.specs.Registers.{commandOf, argument, number}
-use Rattle.refusals.specs.Refusals.{blocksNamed, flushMarks, argumentBroken, isWrite, windowless, reasonFor}
+use Rattle.registers.specs.Registers.{commandOf, argument, number}
+use Rattle.refusals.specs.Refusals.{blocksNamed, flushMarks, argumentBroken, isWrite, windowless, reasonFor, reasonIn}
 use Rattle.refusals.proofs.Accepting.{passed, measured, named-within, create-argument, mark-argument, flush-argument, last-known}
-use Rattle.mailbox.specs.Commands.{Outcome, withVersion, withMarks, sizeFor, hint, marked, created, ackAnswer}
-use Rattle.mailbox.specs.Mediator.{numbered, isCreate, served, answerTo, mediate}
+use Rattle.mailbox.specs.Commands.{Outcome, numbered, sizeFor, hint, marked, created, ackAnswer}
+use Rattle.mailbox.specs.Mediator.{isCreate, served, answerTo, mediate}
 use Rattle.invariants.specs.Kept.{FreshSound, CommandKeeps, AccessKeeps, FlushSound}
 use Rattle.mailbox.proofs.Front.{size-fits}
 use Rattle.invariants.proofs.MarksKept.{clean-sound, marked-sound}
-
--- the same sizes and B, and a session that fits them
-refitted-at : (lpc flash memory : ℕ) (s t : Session) → soundAt lpc flash memory s ≡ true → t .version ≤ 2
-    → windowSound (t .window) (t .first) (t .size) (roundUp flash) (roundUp memory) ≡ true → marksSound (markable (t .window) (t .size)) (t .marks) ≡ true
-    → soundAt lpc flash memory t ≡ true
-unfolding soundAt
-refitted-at lpc flash memory s t e v w m =
-    let p = both (sound flash memory s) (leb (lpc + roundUp memory) 65536) e in
-    rw (p .1, refitted flash memory s t (p .0) v w m)
 
 write-is : (w : Window) → isWrite w ≡ true → w ≡ Write
 write-is Closed e = absurd (false≢true e)
@@ -54,42 +45,42 @@ size-some S C o n h k =
     (λ (t : eqb n 0 ≡ false). let p = positive n (eqb-false n 0 t) in rw t (omega (arith, p)))
     (decided (eqb n 0))
 
-module _ (board : Board) (s : Session) (registers flash memory : List ℕ) (e : soundAt (board .lpc) (length flash) (length memory) s ≡ true) where
+module _ (setup : Setup) (s : Session) (registers flash memory : List ℕ) (e : soundAt setup (length flash) (length memory) s ≡ true) where
   -- what is to be shown of an outcome
   abbrev Keeps : Outcome → Type 0
-  Keeps o = soundAt (board .lpc) (length flash) (length memory) (o .answer .session) ≡ true
+  Keeps o = soundAt setup (length flash) (length memory) (o .machine .session) ≡ true
 
   fits : (t : Session) → t .version ≤ 2 → windowSound (t .window) (t .first) (t .size) (roundUp (length flash)) (roundUp (length memory)) ≡ true
-      → marksSound (markable (t .window) (t .size)) (t .marks) ≡ true → soundAt (board .lpc) (length flash) (length memory) t ≡ true
-  fits t v w m = refitted-at (board .lpc) (length flash) (length memory) s t e v w m
+      → marksSound (markable (t .window) (t .size)) (t .marks) ≡ true → soundAt setup (length flash) (length memory) t ≡ true
+  fits t v w m = refitted-at setup (length flash) (length memory) s t e v w m
 
   known : s .version ≤ 2
-  known = measured (board .lpc) (length flash) (length memory) s e .fits .known
+  known = measured setup (length flash) (length memory) s e .fits .known
 
   window : windowSound (s .window) (s .first) (s .size) (roundUp (length flash)) (roundUp (length memory)) ≡ true
-  window = measured (board .lpc) (length flash) (length memory) s e .fits .window
+  window = measured setup (length flash) (length memory) s e .fits .window
 
   marks : marksSound (markable (s .window) (s .size)) (s .marks) ≡ true
-  marks = measured (board .lpc) (length flash) (length memory) s e .fits .marks
+  marks = measured setup (length flash) (length memory) s e .fits .marks
 
   some : 1 ≤ roundUp (length memory)
-  some = measured (board .lpc) (length flash) (length memory) s e .memory-sized .some
+  some = measured setup (length flash) (length memory) s e .memory-sized .some
 
   -- a new window
   create-keeps : (w : Window) → ((o z : ℕ) → windowSound w o z (roundUp (length flash)) (roundUp (length memory)) ≡ activeSound o z (roundUp (length flash)) (roundUp (length memory)))
-      → number 2 0 registers < roundUp (length flash) → Keeps (created w board (numbered s registers) registers flash memory)
+      → number 2 0 registers < roundUp (length flash) → Keeps (created w setup registers (lent (numbered s registers) flash memory))
   create-keeps w active h =
       let o = number 2 0 registers in
       let n = hint (numbered s registers) registers in
       let z = sizeFor (roundUp (length flash)) (roundUp (length memory)) o n in
       let f = size-fits (roundUp (length flash)) (roundUp (length memory)) o n h in
-      fits (created w board (numbered s registers) registers flash memory .answer .session) known
+      fits (created w setup registers (lent (numbered s registers) flash memory) .machine .session) known
       (active o z ∙ rw (le-leb 1 z (size-some (roundUp (length flash)) (roundUp (length memory)) o n h some), le-leb z (roundUp (length memory)) (f .1), le-leb (o + z) (roundUp (length flash)) (f .0)))
       (clean-sound (markable w z) 64)
 
   -- new marks in a write window
   marked-keeps : (mark : ℕ) → leb mark 2 ≡ true → s .window ≡ Write → blocksNamed s registers .inside ≡ true
-      → soundAt (board .lpc) (length flash) (length memory) (marked mark (numbered s registers) registers) ≡ true
+      → soundAt setup (length flash) (length memory) (marked mark (numbered s registers) registers) ≡ true
   marked-keeps mark fine w inside =
       let limit : markable (s .window) (s .size) ≡ s .size = ap (λ (k : Window). markable k (s .size)) w in
       fits (marked mark (numbered s registers) registers) known window
@@ -98,28 +89,28 @@ module _ (board : Board) (s : Session) (registers flash memory : List ℕ) (e : 
 
   -- a FLUSH, with or without marks of its own
   flush-keeps : (adds : Bool)
-      → soundAt (board .lpc) (length flash) (length memory) (withMarks clean (cond adds (marked dirty (numbered s registers) registers) (numbered s registers))) ≡ true
+      → soundAt setup (length flash) (length memory) (withMarks clean (cond adds (marked dirty (numbered s registers) registers) (numbered s registers))) ≡ true
   flush-keeps true = fits (withMarks clean (numbered s registers)) known window (clean-sound (markable (s .window) (s .size)) 64)
   flush-keeps false = fits (withMarks clean (numbered s registers)) known window (clean-sound (markable (s .window) (s .size)) 64)
 
-  numbered-keeps : soundAt (board .lpc) (length flash) (length memory) (numbered s registers) ≡ true
+  numbered-keeps : soundAt setup (length flash) (length memory) (numbered s registers) ≡ true
   numbered-keeps = fits (numbered s registers) known window marks
 
-  drop-keeps : soundAt (board .lpc) (length flash) (length memory) (dropWindow (numbered s registers)) ≡ true
+  drop-keeps : soundAt setup (length flash) (length memory) (dropWindow (numbered s registers)) ≡ true
   drop-keeps = fits (dropWindow (numbered s registers)) known refl (clean-sound 0 64)
 
-  version-keeps : soundAt (board .lpc) (length flash) (length memory) (withVersion (min (argument 0 registers) 2) (numbered s registers)) ≡ true
+  version-keeps : soundAt setup (length flash) (length memory) (withVersion (min (argument 0 registers) 2) (numbered s registers)) ≡ true
   version-keeps = fits (withVersion (min (argument 0 registers) 2) (numbered s registers)) (omega arith) window marks
 
   -- a command that no check refused
-  module _ (a : reasonFor board s registers (length flash) (length memory) ≡ Accepted) where
+  module _ (a : reasonFor setup s registers (length flash) (length memory) ≡ Accepted) where
     writes : windowless s registers ≡ (true && not (isWrite (s .window))) → s .window ≡ Write
-    writes h = write-is (s .window) (not-false (isWrite (s .window)) (sym h ∙ passed board s registers (length flash) (length memory) a .windowed))
+    writes h = write-is (s .window) (not-false (isWrite (s .window)) (sym h ∙ passed setup s registers (length flash) (length memory) a .windowed))
 
     argued : argumentBroken s registers (roundUp (length flash)) ≡ false
-    argued = passed board s registers (length flash) (length memory) a .argued
+    argued = passed setup s registers (length flash) (length memory) a .argued
 
-    served-keeps : Keeps (served (commandOf registers) board (numbered s registers) registers flash memory)
+    served-keeps : Keeps (served (commandOf registers) setup registers (lent (numbered s registers) flash memory))
     unfolding served
     served-keeps =
         let c = commandOf registers in
@@ -132,11 +123,11 @@ module _ (board : Board) (s : Session) (registers flash memory : List ℕ) (e : 
         chosen Keeps (eqb c 7) _ _ (λ t. marked-keeps dirty refl (writes (rw (eqb-true c 7 t))) (mark-argument s registers (roundUp (length flash)) argued 7 (inl refl) (eqb-true c 7 t))) (λ n7.
         chosen Keeps (eqb c 8) _ _ (λ _. flush-keeps (flushMarks (numbered s registers) registers)) (λ n8.
         chosen Keeps (eqb c 9) _ _ (λ _. fits (ackAnswer (numbered s registers) registers .session) known window marks) (λ n9.
-        let ten = last-known (s .version) c (passed board s registers (length flash) (length memory) a .knows) (eqb-false c 1 n1) (eqb-false c 2 n2) (eqb-false c 3 n3) (eqb-false c 4 n4) (eqb-false c 5 n5) (eqb-false c 6 n6) (eqb-false c 7 n7) (eqb-false c 8 n8) (eqb-false c 9 n9) in
+        let ten = last-known (s .version) c (passed setup s registers (length flash) (length memory) a .knows) (eqb-false c 1 n1) (eqb-false c 2 n2) (eqb-false c 3 n3) (eqb-false c 4 n4) (eqb-false c 5 n5) (eqb-false c 6 n6) (eqb-false c 7 n7) (eqb-false c 8 n8) (eqb-false c 9 n9) in
         marked-keeps erasedMark refl (writes (rw ten)) (mark-argument s registers (roundUp (length flash)) argued 10 (inr refl) ten))))))))))
 
   -- whatever the first check that refuses
-  answer-keeps : (r : Reason) → reasonFor board s registers (length flash) (length memory) ≡ r → Keeps (answerTo r board s registers flash memory)
+  answer-keeps : (r : Reason) → reasonFor setup s registers (length flash) (length memory) ≡ r → Keeps (answerTo r setup registers (lent s flash memory))
   unfolding answerTo
   answer-keeps Accepted a = served-keeps a
   answer-keeps System a = e
@@ -148,37 +139,39 @@ module _ (board : Board) (s : Session) (registers flash memory : List ℕ) (e : 
 
 pub command-keeps : CommandKeeps
 unfolding mediate
-command-keeps board s registers flash memory e =
-    answer-keeps board s registers flash memory e (reasonFor board s registers (length flash) (length memory)) refl
+command-keeps setup registers m e = answer-keeps setup (m .session) registers (m .flash) (m .memory) e (reasonIn setup registers m) refl
 
 -- yes, or no and the session as it was
-either : (lpc flash memory : ℕ) (s : Session) → soundAt lpc flash memory s ≡ true → (b : Bool) (t : Session) → soundAt lpc flash memory t ≡ true
-    → soundAt lpc flash memory (answer b s t .session) ≡ true
-either lpc flash memory s e true t h = h
-either lpc flash memory s e false t h = e
+either : (setup : Setup) (flash memory : ℕ) (s : Session) → soundAt setup flash memory s ≡ true → (b : Bool) (t : Session) → soundAt setup flash memory t ≡ true
+    → soundAt setup flash memory (answer b s t .session) ≡ true
+either setup flash memory s e true t h = h
+either setup flash memory s e false t h = e
 
 pub access-keeps : AccessKeeps
 unfolding soundAt sound sessionSound
-access-keeps lpc flash memory s e = (
-  either lpc flash memory s e (not (s .suspended)) (withAccess true (setBits controlLost (s .events)) s) e,
-  either lpc flash memory s e (s .suspended) (withAccess false (clearBits controlLost (s .events)) s) e,
-  either lpc flash memory s e (s .suspended) (dropWindow (withAccess false (setBits windowReset (clearBits controlLost (s .events))) s))
-      (refitted-at lpc flash memory s (dropWindow (withAccess false (setBits windowReset (clearBits controlLost (s .events))) s)) e (measured lpc flash memory s e .fits .known) refl (clean-sound 0 64)),
+access-keeps setup flash memory s e = (
+  either setup flash memory s e (not (s .suspended)) (withAccess true (setBits controlLost (s .events)) s) e,
+  either setup flash memory s e (s .suspended) (withAccess false (clearBits controlLost (s .events)) s) e,
+  either setup flash memory s e (s .suspended) (dropWindow (withAccess false (setBits windowReset (clearBits controlLost (s .events))) s))
+      (refitted-at setup flash memory s (dropWindow (withAccess false (setBits windowReset (clearBits controlLost (s .events))) s)) e (measured setup flash memory s e .fits .known) refl (clean-sound 0 64)),
 )
 
 pub fresh-sound : FreshSound
-fresh-sound lpc flash memory s e = refitted-at lpc flash memory s fresh e (omega arith) refl (clean-sound 0 64)
+fresh-sound setup flash memory s e = refitted-at setup flash memory s fresh e (omega arith) refl (clean-sound 0 64)
 
 pub flush-sound : FlushSound
-flush-sound board s registers flash memory a =
-    let p = passed board s registers (length flash) (length memory) a in
-    let numbered-sound = measured (board .lpc) (length flash) (length memory) (numbered s registers) (numbered-keeps board s registers flash memory (p .sounds)) .sound in (
+flush-sound setup registers m a =
+    let s = m .session in
+    let flash = m .flash in
+    let memory = m .memory in
+    let p = passed setup s registers (length flash) (length memory) a in
+    let numbered-sound = measured setup (length flash) (length memory) (numbered s registers) (numbered-keeps setup s registers flash memory (p .sounds)) .sound in (
       numbered-sound,
       λ c.
           chosen (λ (t : Session). sound (length flash) (length memory) t ≡ true) (flushMarks s registers) (marked dirty (numbered s registers) registers) (numbered s registers)
           (λ m.
-          measured (board .lpc) (length flash) (length memory) (marked dirty (numbered s registers) registers)
-          (marked-keeps board s registers flash memory (p .sounds) dirty refl (write-is (s .window) (not-false (isWrite (s .window)) (rw c at (p .windowed)))) (flush-argument s registers (roundUp (length flash)) (p .argued) c m))
+          measured setup (length flash) (length memory) (marked dirty (numbered s registers) registers)
+          (marked-keeps setup s registers flash memory (p .sounds) dirty refl (write-is (s .window) (not-false (isWrite (s .window)) (rw c at (p .windowed)))) (flush-argument s registers (roundUp (length flash)) (p .argued) c m))
           .sound)
           (λ _. numbered-sound),
     )

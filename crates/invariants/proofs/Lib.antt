@@ -1,2 +1,4 @@
+mod CarriedOut
+pub mod Demand2
 pub mod Kept
 mod MarksKept

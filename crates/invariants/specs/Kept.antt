@@ -1,45 +1,43 @@
 -- A sound session stays sound, so that SYSTEM_ERROR never comes from what the calls themselves leave. The buffers are lent and keep their
 -- lengths. Proved in proofs/Kept.antt.
 use mathlib.Core.Path.{_≡_}
-use mathlib.Core.Bool.{true, cond}
+use mathlib.Core.Bool.{true}
 use mathlib.Core.List.{List}
 use Prim.Native.Nat.{ℕ}
 use lib.ListN.{length}
 use Rattle.session.specs.declared.Session.{Session}
+use Rattle.session.specs.Machine.{Setup, Machine}
 use Rattle.session.specs.Record.{fresh}
-use Rattle.session.specs.Soundness.{sound, soundAt}
+use Rattle.session.specs.Soundness.{sound, soundAt, soundIn}
 use Rattle.session.specs.Suspension.{suspended, resumed, resumedChanged}
-use Rattle.flush.specs.Actions.{dirty}
-use Rattle.refusals.specs.declared.Board.{Board}
 use Rattle.refusals.specs.declared.Reason.the-variants.{Accepted}
-use Rattle.refusals.specs.Registers.{commandOf}
-use Rattle.refusals.specs.Refusals.{flushMarks, reasonFor}
-use Rattle.mailbox.specs.Commands.{marked}
-use Rattle.mailbox.specs.Mediator.{numbered, mediate}
+use Rattle.registers.specs.Registers.{commandOf}
+use Rattle.refusals.specs.Refusals.{reasonIn}
+use Rattle.mailbox.specs.Commands.{numbered, flushing}
+use Rattle.mailbox.specs.Mediator.{mediate}
 
 -- "A fresh session" is sound wherever any is: the sizes and B alone decide
 abbrev pub FreshSound : Type 0
-FreshSound = (lpc flash memory : ℕ) (s : Session) → soundAt lpc flash memory s ≡ true → soundAt lpc flash memory fresh ≡ true
+FreshSound = (setup : Setup) (flash memory : ℕ) (s : Session) → soundAt setup flash memory s ≡ true → soundAt setup flash memory fresh ≡ true
 
 -- any content of the registers, refused or not
 abbrev pub CommandKeeps : Type 0
 CommandKeeps =
-    (board : Board) (s : Session) (registers flash memory : List ℕ) → soundAt (board .lpc) (length flash) (length memory) s ≡ true
-    → soundAt (board .lpc) (length flash) (length memory) (mediate board s registers flash memory .answer .session) ≡ true
+    (setup : Setup) (registers : List ℕ) (m : Machine) → soundIn setup m ≡ true
+    → soundAt setup (length (m .flash)) (length (m .memory)) (mediate setup registers m .machine .session) ≡ true
 
 -- suspend, resume, and "Resume 'with changed flash'"
 abbrev pub AccessKeeps : Type 0
 AccessKeeps =
-    (lpc flash memory : ℕ) (s : Session) → soundAt lpc flash memory s ≡ true
-    → (soundAt lpc flash memory (suspended s .session) ≡ true)
-    × (soundAt lpc flash memory (resumed s .session) ≡ true)
-    × (soundAt lpc flash memory (resumedChanged s .session) ≡ true)
+    (setup : Setup) (flash memory : ℕ) (s : Session) → soundAt setup flash memory s ≡ true
+    → (soundAt setup flash memory (suspended s .session) ≡ true)
+    × (soundAt setup flash memory (resumed s .session) ≡ true)
+    × (soundAt setup flash memory (resumedChanged s .session) ≡ true)
 
 -- what a command flushes that no check refused is sound, so that the flush always does its actions: the window that a close or a create
 -- closes, and that of a FLUSH with its own marks
 abbrev pub FlushSound : Type 0
 FlushSound =
-    (board : Board) (s : Session) (registers flash memory : List ℕ) → reasonFor board s registers (length flash) (length memory) ≡ Accepted
-    → (sound (length flash) (length memory) (numbered s registers) ≡ true)
-    × (commandOf registers ≡ 8
-    → sound (length flash) (length memory) (cond (flushMarks s registers) (marked dirty (numbered s registers) registers) (numbered s registers)) ≡ true)
+    (setup : Setup) (registers : List ℕ) (m : Machine) → reasonIn setup registers m ≡ Accepted
+    → (sound (length (m .flash)) (length (m .memory)) (numbered (m .session) registers) ≡ true)
+    × (commandOf registers ≡ 8 → sound (length (m .flash)) (length (m .memory)) (flushing (numbered (m .session) registers) registers) ≡ true)

@@ -1,1 +1,1 @@
-// What every call keeps, proved of the definitions: specs/ has the claims, proofs/ their proofs. No code.
+// What every call keeps, and what every command makes of the flash, proved of the definitions: specs/ has the claims, proofs/ their proofs. No code.

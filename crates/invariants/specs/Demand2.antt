@@ -1,0 +1,81 @@
+-- Demand 2's last sentence, said of every command: "The two window marks are carried out as it says: dirty blocks become the window's bytes,
+-- erased blocks become FF." Of the chip actions only the number is told. Proved in proofs/Demand2.antt.
+use mathlib.Core.Path.{_≡_}
+use mathlib.Core.Bool.{cond, _&&_, _||_}
+use mathlib.Core.List.{List}
+use mathlib.Core.Option.{Option, none, some}
+use Prim.Native.Nat.{ℕ, _+_, _-_, _*_, _≤_, _<_}
+use lib.Dec.{leb, ltb, eqb}
+use lib.ListN.{length, getD}
+use Rattle.units.specs.Units.{toBytes, blockHolding}
+use Rattle.session.specs.declared.Session.{Session}
+use Rattle.session.specs.Machine.{Setup, Machine}
+use Rattle.session.specs.Marks.{dirty, erasedMark, marksOf}
+use Rattle.flush.specs.Window.{partEnd}
+use Rattle.refusals.specs.declared.Reason.{Reason}
+use Rattle.refusals.specs.declared.Reason.the-variants.{Accepted, System, Repeated, Unknown, Suspended, Windowless, Argument}
+use Rattle.registers.specs.Registers.{commandOf}
+use Rattle.refusals.specs.Refusals.{isWrite, reasonIn}
+use Rattle.mailbox.specs.Commands.{flushing}
+use Rattle.mailbox.specs.Mediator.{isCreate, mediate}
+
+-- ---- whose marks a command carries out
+
+-- a window that is closed is "flushed if it is a write window"
+abbrev pub atClose : Session → Option Session
+atClose s = cond (isWrite (s .window)) (some s) none
+
+-- a command that no check refused: a create closes the active window first (4, 6), CLOSE_WINDOW (5) closes it, and FLUSH (8) adds its own blocks,
+-- "marked as in MARK_DIRTY", before; no other command flushes
+abbrev pub flushedBy : ℕ → Session → List ℕ → Option Session
+flushedBy command s registers =
+    cond (eqb command 4 || (eqb command 5 || eqb command 6)) (atClose s)
+    (cond (eqb command 8) (some (flushing s registers)) none)
+
+-- a refusal "changes nothing but the previous sequence number", but "a create refused for its argument has already closed and flushed the old
+-- window"
+abbrev pub flushedFor : Reason → Session → List ℕ → Option Session
+flushedFor Accepted s registers = flushedBy (commandOf registers) s registers
+flushedFor System s registers = none
+flushedFor Repeated s registers = none
+flushedFor Unknown s registers = none
+flushedFor Suspended s registers = none
+flushedFor Windowless s registers = none
+flushedFor Argument s registers = cond (isCreate registers) (atClose s) none
+
+-- ---- what becomes of the flash
+
+-- the mark of the block in which byte x of the flash lies: "one for each possible window block", and 0 outside the window
+abbrev pub markAt : Session → ℕ → ℕ
+markAt s x =
+    cond (leb (toBytes (s .first)) x && ltb x (partEnd s)) (getD (s .marks) (blockHolding (x - toBytes (s .first))) 0) 0
+
+-- the window's byte for byte x of the flash
+abbrev pub windowByte : Session → List ℕ → ℕ → ℕ
+windowByte s memory x = getD memory (x - toBytes (s .first)) 0
+
+-- "dirty blocks become the window's bytes, erased blocks become FF", and "unmarked blocks must keep the flash's bytes, even where the host wrote
+-- in the window"
+abbrev pub becomes : Session → List ℕ → List ℕ → ℕ → ℕ
+becomes s flash memory x =
+    cond (eqb (markAt s x) dirty) (windowByte s memory x) (cond (eqb (markAt s x) erasedMark) 0xff (getD flash x 0))
+
+-- a session's marks carried out: what the flash is afterwards, byte by byte (in a dirty block where the window memory has a byte, a number below
+-- 256: every lent buffer has), and how many actions that took, "17 for each dirty block plus 1 for each erased one, at most 1,088"
+pub record CarriedOut (s : Session) (flash memory after : List ℕ) (actions : ℕ) : Type 0 where
+  pub long : length after ≡ length flash
+  pub bytes : (x : ℕ) → (markAt s x ≡ dirty → windowByte s memory x < 256) → getD after x 0 ≡ becomes s flash memory x
+  pub number : actions ≡ 17 * marksOf dirty (s .marks) + marksOf erasedMark (s .marks)
+  pub few : actions ≤ 1088
+
+-- or nothing carried out: the flash is as it was, and the number "0 if it flushes nothing"
+abbrev pub Leaves : Option Session → List ℕ → List ℕ → List ℕ → ℕ → Type 0
+Leaves none flash memory after actions = (after ≡ flash) × (actions ≡ 0)
+Leaves (some s) flash memory after actions = CarriedOut s flash memory after actions
+
+-- the claim, of every command: any content of the registers, any session and buffers, sound or not
+abbrev pub Demand2 : Type 0
+Demand2 =
+    (setup : Setup) (registers : List ℕ) (m : Machine)
+    → Leaves (flushedFor (reasonIn setup registers m) (m .session) registers) (m .flash) (m .memory)
+    (mediate setup registers m .machine .flash) (mediate setup registers m .actions)
