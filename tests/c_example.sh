@@ -8,6 +8,6 @@ bash tests/staticlib.sh
 mkdir -p "$built"
 g++ -std=c++17 -Wall -Wextra -Werror -fsyntax-only -x c++ include/hiomap.h
 gcc -std=c11 -O2 -Wall -Wextra -Werror -Iinclude examples/board/loop.c target/staticlib/libboard.a -o "$built/loop"
-"$built/loop" > "$built/printed.txt"
+bash tests/limit.sh 10 "$built/loop" > "$built/printed.txt"
 diff -u examples/board/expected.txt "$built/printed.txt"
 echo "c example: as expected"

@@ -9,10 +9,10 @@ cargo build --release --offline --quiet --manifest-path tests/compare/Cargo.toml
 for section in refusals edges unsound suspensions cuts full largest; do
     stored=tests/cases/$section.txt
     if [ "${1:-}" = second ]; then
-        target/cargo/release/cases second $section > "$stored"
+        bash tests/limit.sh 60 target/cargo/release/cases second $section > "$stored"
         continue
     fi
-    target/cargo/release/cases ours $section > target/$section.txt
+    bash tests/limit.sh 60 target/cargo/release/cases ours $section > target/$section.txt
     diff -u "$stored" target/$section.txt
     echo "cases: $section, $(wc -l < "$stored") lines as stored"
 done

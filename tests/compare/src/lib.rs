@@ -1,15 +1,20 @@
 //! The proved library as Rust sees it: the C boundary of the crate `board`, wrapped in safe functions.
 
+pub mod pair;
+pub mod program;
+pub mod twin;
+
 use second::{Kind, Session};
 
+/// C's record. The flags are numbers here, so that a byte that is neither 0 nor 1 has a meaning.
 #[repr(C)]
-#[derive(Clone, Copy)]
+#[derive(Clone, Copy, Debug, PartialEq)]
 pub struct Record {
     pub version: u8,
-    pub numbered: bool,
+    pub numbered: u8,
     pub previous: u8,
     pub events: u8,
-    pub suspended: bool,
+    pub suspended: u8,
     pub window: u8,
     pub first: u16,
     pub size: u16,
@@ -23,28 +28,34 @@ struct Bytes {
 }
 
 #[repr(C)]
-struct Suspended {
-    done: bool,
-    record: Record,
+pub struct Suspended {
+    pub done: u8,
+    pub record: Record,
 }
 
 #[repr(C)]
 struct Stepped {
     code: u8,
-    acted: bool,
+    acted: u8,
 }
 
 extern "C" {
-    fn hiomap_fresh() -> Record;
-    fn hiomap_command(record: &mut Record, registers: &mut [u8; 16], lpc: u16, timeout: u16, flash: Bytes, memory: Bytes) -> u32;
-    fn hiomap_suspend(record: Record) -> Suspended;
-    fn hiomap_resume(record: Record) -> Suspended;
-    fn hiomap_resume_changed(record: Record) -> Suspended;
+    pub fn hiomap_fresh() -> Record;
+    fn hiomap_command(record: *mut Record, registers: *mut [u8; 16], lpc: u16, timeout: u16, flash: Bytes, memory: Bytes) -> u32;
+    pub fn hiomap_suspend(record: Record) -> Suspended;
+    pub fn hiomap_resume(record: Record) -> Suspended;
+    pub fn hiomap_resume_changed(record: Record) -> Suspended;
     fn hiomap_step(record: Record, flash: Bytes, memory: Bytes, done: u64) -> Stepped;
 }
 
 fn bytes(part: &mut [u8]) -> Bytes {
     Bytes { data: part.as_mut_ptr(), len: part.len() }
+}
+
+/// A bool byte of C.
+fn yes(byte: u8) -> bool {
+    assert!(byte < 2, "a bool byte is {byte}");
+    byte == 1
 }
 
 pub fn fresh() -> Record {
@@ -69,22 +80,22 @@ pub fn resume_changed(record: &mut Record) -> bool {
 
 fn taken(record: &mut Record, answer: Suspended) -> bool {
     *record = answer.record;
-    answer.done
+    yes(answer.done)
 }
 
 pub fn step(record: &Record, flash: &mut [u8], memory: &mut [u8], done: u64) -> (u8, bool) {
     let answer = unsafe { hiomap_step(*record, bytes(flash), bytes(memory), done) };
-    (answer.code, answer.acted)
+    (answer.code, yes(answer.acted))
 }
 
-/// The record of a session of the second implementation.
-pub fn record_of(s: &Session) -> Record {
+/// The record of a session of the second implementation, with the byte that stands where there is no previous number.
+pub fn record_of(s: &Session, spare: u8) -> Record {
     Record {
         version: s.version,
-        numbered: s.previous.is_some(),
-        previous: s.previous.unwrap_or(0),
+        numbered: u8::from(s.previous.is_some()),
+        previous: s.previous.unwrap_or(spare),
         events: s.events,
-        suspended: s.suspended,
+        suspended: u8::from(s.suspended),
         window: match s.kind {
             Kind::Closed => 0,
             Kind::Read => 1,
@@ -100,9 +111,9 @@ pub fn record_of(s: &Session) -> Record {
 pub fn session_of(r: &Record) -> Session {
     Session {
         version: r.version,
-        previous: if r.numbered { Some(r.previous) } else { None },
+        previous: if r.numbered != 0 { Some(r.previous) } else { None },
         events: r.events,
-        suspended: r.suspended,
+        suspended: r.suspended != 0,
         kind: match r.window {
             0 => Kind::Closed,
             1 => Kind::Read,
@@ -135,6 +146,11 @@ impl Random {
     /// True once in n times.
     pub fn once_in(&mut self, n: u64) -> bool {
         self.below(n) == 0
+    }
+
+    /// One of these.
+    pub fn one_of<T: Copy>(&mut self, all: &[T]) -> T {
+        all[self.below(all.len() as u64) as usize]
     }
 
     pub fn fill(&mut self, part: &mut [u8]) {

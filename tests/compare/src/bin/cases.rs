@@ -36,7 +36,7 @@ impl Machine {
     fn command(&mut self, mut registers: [u8; 16]) -> ([u8; 16], u32) {
         match self.side {
             Side::Ours => {
-                let mut record = record_of(&self.session);
+                let mut record = record_of(&self.session, 0);
                 let actions = compare::command(&mut record, &mut registers, self.lpc, TIMEOUT, &mut self.flash, &mut self.memory);
                 self.session = session_of(&record);
                 (registers, actions)
@@ -58,13 +58,13 @@ impl Machine {
 
     fn step(&mut self, done: u64) -> (u8, bool) {
         match self.side {
-            Side::Ours => compare::step(&record_of(&self.session), &mut self.flash, &mut self.memory, done),
+            Side::Ours => compare::step(&record_of(&self.session, 0), &mut self.flash, &mut self.memory, done),
             Side::Second => second::step(&self.session, &mut self.flash, &self.memory, done),
         }
     }
 
     fn access(&mut self, call: Access) -> bool {
-        let mut record = record_of(&self.session);
+        let mut record = record_of(&self.session, 0);
         let ours = match call {
             Access::Suspend => compare::suspend as fn(&mut compare::Record) -> bool,
             Access::Resume => compare::resume,

@@ -2,92 +2,21 @@
 //!
 //! compare [SEED [ROUNDS]]: one seed, or many; the line that a difference prints runs it again.
 
-use compare::{record_of, session_of, Random, Record};
-use second::{Kind, Session};
-use std::io::Write;
-use std::process::{Command, Stdio};
+use compare::pair::{Access, Pair};
+use compare::{program, session_of, twin, Random, Record};
 
 const BLOCK: usize = 4096;
 
-/// One machine for each side: the same session, flash and window memory.
-struct Pair {
-    record: Record,
-    session: Session,
-    flash: [Vec<u8>; 2],
-    memory: [Vec<u8>; 2],
-    lpc: u16,
-    timeout: u16,
-}
-
-impl Pair {
-    fn new(r: &mut Random) -> Pair {
-        let full = r.once_in(50);
-        let (s, c) = if full { (60 + r.below(10) as usize, 64) } else { (1 + r.below(8) as usize, 1 + r.below(4) as usize) };
-        let mut flash = vec![0; length(r, s)];
-        let mut memory = vec![0; length(r, c)];
-        r.fill(&mut flash);
-        r.fill(&mut memory);
-        let session = random_session(r, s as u64, c as u64);
-        let lpc = if r.once_in(12) { (65536 - c as u64 - 1 + r.below(3)) as u16 } else { r.below(100) as u16 };
-        Pair {
-            record: record_of(&session),
-            session,
-            flash: [flash.clone(), flash],
-            memory: [memory.clone(), memory],
-            lpc,
-            timeout: r.next() as u16,
-        }
-    }
-
-    fn command(&mut self, registers: [u8; 16]) -> Result<(), String> {
-        let mut ours = registers;
-        let actions = compare::command(&mut self.record, &mut ours, self.lpc, self.timeout, &mut self.flash[0], &mut self.memory[0]);
-        let theirs = second::command(&mut self.session, registers, self.lpc, self.timeout, &mut self.flash[1], &mut self.memory[1]);
-        self.same("command", (ours, actions), theirs)
-    }
-
-    fn step(&mut self, done: u64) -> Result<(), String> {
-        let ours = compare::step(&self.record, &mut self.flash[0], &mut self.memory[0], done);
-        let theirs = second::step(&self.session, &mut self.flash[1], &self.memory[1], done);
-        self.same("step", ours, theirs)
-    }
-
-    fn access(&mut self, which: u64) -> Result<(), String> {
-        let (ours, theirs) = match which {
-            0 => (compare::suspend(&mut self.record), second::suspend(&mut self.session)),
-            1 => (compare::resume(&mut self.record), second::resume(&mut self.session)),
-            _ => (compare::resume_changed(&mut self.record), second::resume_changed(&mut self.session)),
-        };
-        self.same("access", ours, theirs)
-    }
-
-    fn host_write(&mut self, r: &mut Random) {
-        let most = self.memory[0].len();
-        if most == 0 {
-            return;
-        }
-        let at = r.below(most as u64) as usize;
-        let end = (at + 1 + r.below(5000) as usize).min(most);
-        r.fill(&mut self.memory[0][at..end]);
-        let copy = self.memory[0][at..end].to_vec();
-        self.memory[1][at..end].copy_from_slice(&copy);
-    }
-
-    fn same<T: PartialEq + std::fmt::Debug>(&self, what: &str, ours: T, theirs: T) -> Result<(), String> {
-        if ours != theirs {
-            return Err(format!("{what}: answered {ours:?}, the second implementation {theirs:?}"));
-        }
-        if session_of(&self.record) != self.session {
-            return Err(format!("{what}: session {:?}, the second implementation {:?}", session_of(&self.record), self.session));
-        }
-        if self.flash[0] != self.flash[1] {
-            return Err(format!("{what}: flash differs"));
-        }
-        if self.memory[0] != self.memory[1] {
-            return Err(format!("{what}: window memory differs"));
-        }
-        Ok(())
-    }
+fn random_pair(r: &mut Random) -> Pair {
+    let full = r.once_in(50);
+    let (s, c) = if full { (60 + r.below(10) as usize, 64) } else { (1 + r.below(8) as usize, 1 + r.below(4) as usize) };
+    let mut flash = vec![0; length(r, s)];
+    let mut memory = vec![0; length(r, c)];
+    r.fill(&mut flash);
+    r.fill(&mut memory);
+    let record = random_record(r, s as u64, c as u64);
+    let lpc = if r.once_in(12) { (65536 - c as u64 - 1 + r.below(3)) as u16 } else { r.next() as u16 };
+    Pair::new(record, &flash, &memory, lpc, r.next() as u16)
 }
 
 /// Mostly whole blocks, now and then any length.
@@ -96,51 +25,52 @@ fn length(r: &mut Random, blocks: usize) -> usize {
         0 => r.below(3 * BLOCK as u64) as usize,
         1 => blocks * BLOCK + 1,
         2 => blocks * BLOCK - 1,
+        3 if r.once_in(4) => 0,
         _ => blocks * BLOCK,
     }
 }
 
-fn random_session(r: &mut Random, s: u64, c: u64) -> Session {
-    let mut session = Session::fresh();
-    session.version = r.below(3) as u8;
-    session.events = r.next() as u8;
-    session.suspended = r.once_in(6);
-    if !r.once_in(4) {
-        session.previous = Some(r.below(4) as u8);
+fn random_record(r: &mut Random, s: u64, c: u64) -> Record {
+    let mut record = compare::fresh();
+    record.version = r.below(3) as u8;
+    record.events = r.next() as u8;
+    record.suspended = u8::from(r.once_in(6));
+    record.numbered = u8::from(!r.once_in(4));
+    record.previous = if r.once_in(8) { r.next() as u8 } else { r.below(4) as u8 };
+    record.window = [0, 1, 2, 2][r.below(4) as usize];
+    if record.window != 0 {
+        record.first = r.below(s) as u16;
+        record.size = 1 + r.below(c.min(s - record.first as u64)) as u16;
     }
-    session.kind = [Kind::Closed, Kind::Read, Kind::Write, Kind::Write][r.below(4) as usize];
-    if session.kind != Kind::Closed {
-        session.first = r.below(s) as u16;
-        session.size = 1 + r.below(c.min(s - session.first as u64)) as u16;
-    }
-    if session.kind == Kind::Write {
-        for mark in &mut session.marks[..session.size as usize] {
+    if record.window == 2 {
+        for mark in &mut record.marks[..record.size as usize] {
             *mark = r.below(3) as u8;
         }
     }
     if r.once_in(8) {
-        spoil(r, &mut session);
+        spoil(r, &mut record);
     }
-    session
+    record
 }
 
-/// A session that no command would leave.
-fn spoil(r: &mut Random, session: &mut Session) {
-    match r.below(6) {
-        0 => session.version = r.next() as u8,
-        1 => session.first = r.next() as u16,
-        2 => session.size = r.next() as u16,
-        3 => session.marks[r.below(64) as usize] = r.next() as u8,
-        4 => session.kind = Kind::Closed,
-        _ => session.marks = [1; 64],
+/// A record that no command would leave.
+fn spoil(r: &mut Random, record: &mut Record) {
+    match r.below(7) {
+        0 => record.version = r.next() as u8,
+        1 => record.first = r.next() as u16,
+        2 => record.size = r.next() as u16,
+        3 => record.marks[r.below(64) as usize] = r.next() as u8,
+        4 => record.window = 0,
+        5 => record.window = r.next() as u8,
+        _ => record.marks = [1; 64],
     }
 }
 
-fn registers(r: &mut Random) -> [u8; 16] {
+fn registers(r: &mut Random, previous: u8) -> [u8; 16] {
     let mut registers = [0; 16];
     r.fill(&mut registers);
     registers[0] = if r.once_in(20) { r.next() as u8 } else { r.below(12) as u8 };
-    registers[1] = r.below(5) as u8;
+    registers[1] = if r.once_in(16) { previous } else { r.below(5) as u8 };
     for i in (2..13).step_by(2) {
         match r.below(6) {
             0 => {}
@@ -156,27 +86,44 @@ fn registers(r: &mut Random) -> [u8; 16] {
     registers
 }
 
+/// A number of actions done that is none the step before left: within a flush, at its end, or a multiple of a power of two above one.
+fn jump(r: &mut Random) -> u64 {
+    let near = r.below(80);
+    match r.below(4) {
+        0 => r.next(),
+        1 => near,
+        2 => 1000 + r.below(100),
+        _ => ((1 + r.below(3)) << r.one_of(&[8, 16, 31, 32, 33, 48, 61])) + near,
+    }
+}
+
 /// A list of calls, the same on both sides.
 fn calls(r: &mut Random) -> Result<(), String> {
-    let mut pair = Pair::new(r);
+    let mut pair = random_pair(r);
     let mut done = 0;
     for _ in 0..40 {
         match r.below(12) {
-            0 => pair.access(r.below(3))?,
-            1 => pair.host_write(r),
+            0 => pair.access(r.one_of(&[Access::Suspend, Access::Resume, Access::ResumeChanged]))?,
+            1 => host_write(r, &mut pair),
             2 | 3 => {
                 pair.step(done)?;
-                done = match r.below(6) {
-                    0 => r.next(),
-                    1 | 2 => r.below(80),
-                    3 => 1000 + r.below(100),
-                    _ => done.wrapping_add(1),
-                };
+                done = if r.once_in(2) { jump(r) } else { done.wrapping_add(1) };
             }
-            _ => pair.command(registers(r))?,
+            _ => pair.command(registers(r, pair.record[0].previous))?,
         }
     }
     Ok(())
+}
+
+fn host_write(r: &mut Random, pair: &mut Pair) {
+    let most = pair.memory[0].part().len();
+    if most == 0 {
+        return;
+    }
+    let at = r.below(most as u64) as usize;
+    let mut bytes = vec![0; (1 + r.below(5000) as usize).min(most - at)];
+    r.fill(&mut bytes);
+    pair.host_write(at, &bytes);
 }
 
 /// Demand 3 on the proved library: cut at any action, open again, mark, write and flush. The steps up to the cut run beside the second's.
@@ -204,7 +151,7 @@ fn cut(r: &mut Random) -> Result<(), String> {
     let mut theirs = flash.clone();
     for j in 0..cut {
         let answer = compare::step(&record, &mut flash, &mut memory, j);
-        if answer != second::step(&session_of(&record), &mut theirs, &memory, j) || answer != (1, true) || flash != theirs {
+        if answer != twin::step(&record, &mut theirs, &memory, j) || answer != (1, true) || flash != theirs {
             return Err(format!("cut: step {j} of {n} differs"));
         }
     }
@@ -258,9 +205,9 @@ fn records(r: &mut Random) -> Vec<u8> {
                 let any = [r.below(12), r.below(250), r.below(260), r.below(260), r.below(260), r.below(260), 0, 0, 0, 0, 0, 0, 0, 0];
                 put_command(&mut input, &any[..2 + r.below(13) as usize]);
             }
-            12 => put_command(&mut input, &[[1, 2, 3, 4, 5, 6, 9][r.below(7) as usize], sequence, r.below(4), 0, r.below(4), 0]),
+            12 => put_command(&mut input, &[r.one_of(&[1, 2, 3, 4, 5, 6, 9]), sequence, r.below(4), 0, r.below(4), 0]),
             _ => {
-                let code = [7, 7, 8, 8, 10][r.below(5) as usize];
+                let code = r.one_of(&[7, 7, 8, 8, 10]);
                 put_command(&mut input, &range(r, code, sequence, version, first));
             }
         }
@@ -311,14 +258,27 @@ fn bench(r: &mut Random, program: &str) -> Result<bool, String> {
     if r.once_in(40) {
         input.resize(16383 + r.below(3) as usize, 2);
     }
-    let mut child = Command::new(program).stdin(Stdio::piped()).stdout(Stdio::piped()).spawn().map_err(|e| format!("{program}: {e}"))?;
-    child.stdin.take().unwrap().write_all(&input).map_err(|e| e.to_string())?;
-    let ours = child.wait_with_output().map_err(|e| e.to_string())?;
+    let ours = program::printed(program, &parts(r, &input)).map_err(|e| format!("bench on {input:02x?}: {e}"))?;
     let theirs = second::bench(&input);
-    if !ours.status.success() || ours.stdout != theirs {
-        return Err(format!("bench on {input:02x?}: {:?}, the second implementation {:?}", String::from_utf8_lossy(&ours.stdout), String::from_utf8_lossy(&theirs)));
+    if ours != theirs {
+        return Err(format!("bench on {input:02x?}: {:?}, the second implementation {:?}", String::from_utf8_lossy(&ours), String::from_utf8_lossy(&theirs)));
     }
     Ok(!theirs.ends_with(b"flash 0 0 0 0\n") && !theirs.starts_with(b"too long"))
+}
+
+/// An input at once, or now and then in a few parts of any lengths.
+fn parts<'a>(r: &mut Random, input: &'a [u8]) -> Vec<&'a [u8]> {
+    let mut parts = Vec::new();
+    let mut rest = input;
+    if r.once_in(8) {
+        for _ in 0..1 + r.below(3) {
+            let (part, more) = rest.split_at(r.below(rest.len() as u64 + 1) as usize);
+            parts.push(part);
+            rest = more;
+        }
+    }
+    parts.push(rest);
+    parts
 }
 
 /// A number in seven-bit groups.

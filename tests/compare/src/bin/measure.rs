@@ -71,7 +71,7 @@ fn line(what: &str, other: &str, [ours, theirs]: [f64; 2], aim: f64) {
 
 /// The work on bytes, against the machine's own.
 fn against_the_machine(room: &mut Room, closed: &Record) {
-    let dirty = record_of(&write_window(0, 64, 1));
+    let dirty = record_of(&write_window(0, 64, 1), 0);
     let flush = |room: &mut Room| ours(&dirty, request(8, 0, 0), room, 64 * BLOCK);
     let fill = |room: &mut Room| {
         room.flash.fill(0xff);
@@ -93,7 +93,7 @@ fn against_the_machine(room: &mut Room, closed: &Record) {
 /// The work on registers and marks, against the second implementation.
 fn against_the_second(room: &mut Room) {
     let clean = write_window(0, 64, 0);
-    let record = record_of(&clean);
+    let record = record_of(&clean, 0);
     for (what, registers) in [("GET_INFO", request(2, 2, 0)), ("MARK_DIRTY of one block", request(7, 1, 1)), ("MARK_DIRTY of 64 blocks", request(7, 0, 64))] {
         let both = least(200, 20_000, room, |room| ours(&record, registers, room, 64 * BLOCK), |room| theirs(&clean, registers, room));
         line(what, "the second implementation", both, 1.0);
@@ -103,8 +103,8 @@ fn against_the_second(room: &mut Room) {
 /// The largest chip against a small one, which is its front.
 fn against_a_small_chip(closed: &Record) {
     let mut room = Room { flash: vec![0xff; 65_535 * BLOCK], memory: vec![0; 2 * BLOCK] };
-    let two = record_of(&write_window(0, 2, 1));
-    let none = record_of(&write_window(0, 2, 0));
+    let two = record_of(&write_window(0, 2, 1), 0);
+    let none = record_of(&write_window(0, 2, 0), 0);
     for (what, record, registers, calls) in [
         ("GET_INFO", &none, request(2, 2, 0), 20_000),
         ("MARK_DIRTY", &none, request(7, 0, 1), 20_000),
@@ -120,7 +120,7 @@ fn main() {
     println!("| what | ours | against | that | ratio | aim | |");
     println!("|---|---|---|---|---|---|---|");
     let mut room = Room { flash: vec![0x5a; 64 * BLOCK], memory: vec![0xa5; 64 * BLOCK] };
-    let closed = record_of(&Session { version: 2, ..Session::fresh() });
+    let closed = record_of(&Session { version: 2, ..Session::fresh() }, 0);
     against_the_machine(&mut room, &closed);
     against_the_second(&mut room);
     against_a_small_chip(&closed);

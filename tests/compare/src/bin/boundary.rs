@@ -1,0 +1,358 @@
+//! What no contract holds: which argument and which field stands where and how wide it is, and what the bench program reads and writes. Fixed
+//! cases, each on both implementations; it stops at the first difference.
+//!
+//! boundary: BENCH names the bench program.
+
+use compare::pair::{Access, Pair};
+use compare::{program, twin, Record, Suspended};
+use std::fs::File;
+use std::mem::{offset_of, size_of, transmute, MaybeUninit};
+
+const BLOCK: usize = 4096;
+
+/// The record is as include/hiomap.h has it.
+const _: () = assert!(offset_of!(Record, version) == 0 && offset_of!(Record, numbered) == NUMBERED && offset_of!(Record, previous) == 2);
+const _: () = assert!(offset_of!(Record, events) == 3 && offset_of!(Record, suspended) == SUSPENDED && offset_of!(Record, window) == 5);
+const _: () = assert!(offset_of!(Record, first) == 6 && offset_of!(Record, size) == 8 && offset_of!(Record, marks) == MARKS);
+const _: () = assert!(size_of::<Record>() == RECORD && offset_of!(Suspended, record) == 2 && size_of::<Suspended>() == 76);
+const NUMBERED: usize = 1;
+const SUSPENDED: usize = 4;
+const MARKS: usize = 10;
+const RECORD: usize = 74;
+
+/// Every page of 15 blocks has a byte of its own, and none is FF.
+fn pattern(length: usize, base: usize) -> Vec<u8> {
+    (0..length).map(|i| ((i / 256 + base) % 251) as u8).collect()
+}
+
+/// A version, a window at blocks 1 and 2 (0 none, 1 read, 2 write and marked), and a previous number.
+fn record(version: u8, window: u8) -> Record {
+    let mut record = Record { version, numbered: 1, previous: 9, window, ..compare::fresh() };
+    if window != 0 {
+        (record.first, record.size) = (1, 2);
+    }
+    if window == 2 {
+        record.marks[..2].copy_from_slice(&[2, 1]);
+    }
+    record
+}
+
+/// Three flash blocks and two window blocks.
+fn pair(record: Record) -> Pair {
+    Pair::new(record, &pattern(3 * BLOCK, 10), &pattern(2 * BLOCK, 90), 0xa1b2, 0xc3d4)
+}
+
+fn registers(code: u8, sequence: u8, arguments: &[u8]) -> [u8; 16] {
+    let mut registers = [0; 16];
+    registers[..2].copy_from_slice(&[code, sequence]);
+    registers[2..2 + arguments.len()].copy_from_slice(arguments);
+    registers
+}
+
+/// Each call by itself on a copy of the pair.
+fn every_call(pair: &Pair) -> Result<(), String> {
+    let commands: [(u8, &[u8]); 10] =
+        [(1, &[]), (2, &[1]), (2, &[2]), (3, &[]), (4, &[2, 0, 1]), (5, &[]), (6, &[0]), (7, &[1, 0, 1]), (8, &[]), (9, &[0x41])];
+    for (code, arguments) in commands {
+        pair.clone().command(registers(code, 5, arguments))?;
+    }
+    // the previous number again
+    pair.clone().command(registers(8, 9, &[]))?;
+    pair.clone().command(registers(2, 9, &[1]))?;
+    for done in [0, 1, 17] {
+        pair.clone().step(done)?;
+    }
+    for access in [Access::Suspend, Access::Resume, Access::ResumeChanged] {
+        pair.clone().access(access)?;
+    }
+    Ok(())
+}
+
+fn with_byte(record: Record, at: usize, value: u8) -> Record {
+    let mut bytes: [u8; RECORD] = unsafe { transmute(record) };
+    bytes[at] = value;
+    unsafe { transmute(bytes) }
+}
+
+/// Each byte of the record by itself, with values that mean something else in every other field, in each call.
+fn fields() -> Result<(), String> {
+    for (version, window, suspended) in [(2, 2, 0), (2, 2, 1), (1, 2, 0), (2, 1, 0), (1, 0, 1), (0, 0, 0)] {
+        let base = Record { suspended, ..record(version, window) };
+        for at in 0..RECORD {
+            let values: &[u8] = match at {
+                NUMBERED | SUSPENDED => &[0, 1],
+                MARKS.. => &[1, 3],
+                _ => &[0, 1, 2, 3, 4, 5, 9, 0x40, 0x7f, 0x80, 0x81, 0xff],
+            };
+            for value in values {
+                every_call(&pair(with_byte(base, at, *value))).map_err(|e| format!("byte {at} of the record is {value}: {e}"))?;
+            }
+        }
+    }
+    Ok(())
+}
+
+/// A flag above 1 stands for no session; suspend and resume take it.
+fn wide_flags() -> Result<(), String> {
+    for (version, window) in [(2, 2), (1, 2), (2, 1), (2, 0), (0, 0), (3, 2), (2, 7)] {
+        for (at, other) in [(NUMBERED, SUSPENDED), (SUSPENDED, NUMBERED)] {
+            for value in [2, 3, 4, 0x7f, 0x80, 0xfe, 0xff] {
+                for beside in [0, 1, value] {
+                    let record = with_byte(with_byte(record(version, window), at, value), other, beside);
+                    every_call(&pair(record)).map_err(|e| format!("flag {at} of the record is {value}, the other {beside}: {e}"))?;
+                }
+            }
+        }
+    }
+    Ok(())
+}
+
+/// The first LPC block and the timeout: each byte of both, and the limit of the first.
+fn lpc_and_timeout() -> Result<(), String> {
+    let values = [(0xa1b2, 0xc3d4), (0xc3d4, 0xa1b2), (0, 65535), (255, 256), (256, 255), (0x7fff, 0x8000), (0x8000, 0x7fff)];
+    for c in [1, 2, 3, 64] {
+        let last = (65536 - c as u32) as u16;
+        let edges = [(last - 1, 65535), (last, 65534), (last, 0), (last.wrapping_add(1), 0), (65535, 65534), (65534, 65535)];
+        for (lpc, timeout) in values.into_iter().chain(edges) {
+            for version in 0..3 {
+                let mut pair = Pair::new(record(version, 0), &pattern(3 * BLOCK, 10), &pattern(c * BLOCK, 90), lpc, timeout);
+                for (code, argument) in [(2, 1), (4, 1), (6, 0), (2, 2), (4, 1), (6, 2)] {
+                    pair.record.iter_mut().for_each(|record| record.numbered = 0);
+                    pair.command(registers(code, 5, &[argument])).map_err(|e| format!("lpc {lpc}, timeout {timeout}, {c} window blocks: {e}"))?;
+                }
+            }
+        }
+    }
+    Ok(())
+}
+
+/// Each register by itself, of each command, at each version and with each window.
+fn each_register() -> Result<(), String> {
+    for version in 0..3 {
+        for window in 0..3 {
+            let pair = pair(record(version, window));
+            for code in 0..12 {
+                for at in 1..16 {
+                    for value in [1, 2, 0x10, 0x7f, 0x80, 0xff] {
+                        let mut sent = registers(code, 5, &[1, 0, 1]);
+                        sent[at] = value;
+                        pair.clone().command(sent)?;
+                    }
+                }
+            }
+        }
+    }
+    Ok(())
+}
+
+/// Lengths of the flash and of the window memory that differ, 0 among them.
+fn lengths() -> Result<(), String> {
+    let lengths = [0, 1, BLOCK - 1, BLOCK, BLOCK + 1, 2 * BLOCK, 3 * BLOCK, 64 * BLOCK, 65 * BLOCK];
+    for flash in lengths {
+        for memory in lengths {
+            for window in [0, 2] {
+                let pair = Pair::new(record(2, window), &pattern(flash, 10), &pattern(memory, 90), 0xa1b2, 0xc3d4);
+                every_call(&pair).map_err(|e| format!("flash of {flash} bytes, window memory of {memory}: {e}"))?;
+            }
+        }
+    }
+    Ok(())
+}
+
+/// Zero bytes that can only be read, and take no memory until they are.
+struct Zeros {
+    start: *mut u8,
+    length: usize,
+}
+
+extern "C" {
+    fn mmap(start: *mut u8, length: usize, protection: i32, flags: i32, file: i32, offset: i64) -> *mut u8;
+    fn munmap(start: *mut u8, length: usize) -> i32;
+}
+
+const READ_ONLY: i32 = 1;
+const PRIVATE_ANONYMOUS_NORESERVE: i32 = 0x4022;
+
+impl Zeros {
+    fn new(length: usize) -> Zeros {
+        let start = unsafe { mmap(std::ptr::null_mut(), length, READ_ONLY, PRIVATE_ANONYMOUS_NORESERVE, -1, 0) };
+        assert!(start as isize != -1, "{length} bytes of addresses: {}", std::io::Error::last_os_error());
+        Zeros { start, length }
+    }
+
+    /// Whoever writes there ends the program.
+    fn part(&mut self, length: usize) -> &mut [u8] {
+        assert!(length <= self.length);
+        unsafe { std::slice::from_raw_parts_mut(self.start, length) }
+    }
+}
+
+impl Drop for Zeros {
+    fn drop(&mut self) {
+        unsafe { munmap(self.start, self.length) };
+    }
+}
+
+/// Lengths of which only the last bits, or the last bits of their blocks, are those of a good length.
+fn large_lengths() -> Result<(), String> {
+    let (mut flash, mut memory) = (Zeros::new((1 << 44) + 3 * BLOCK), Zeros::new((1 << 44) + 3 * BLOCK));
+    for more in [1 << 20, 1 << 28, 1 << 31, 1 << 32, 1 << 33, 1 << 40, 1 << 44] {
+        let (s, c) = (3 * BLOCK, 2 * BLOCK);
+        for (s, c) in [(s + more, c), (s, c + more), (s + more, c + more), (more, c), (s, more)] {
+            large(flash.part(s), memory.part(c)).map_err(|e| format!("flash of {s} bytes, window memory of {c}: {e}"))?;
+        }
+    }
+    Ok(())
+}
+
+/// Calls that do not write there.
+fn large(flash: &mut [u8], memory: &mut [u8]) -> Result<(), String> {
+    for code in [2, 3] {
+        let (mut ours, mut theirs) = ((record(2, 0), registers(code, 5, &[1])), (record(2, 0), registers(code, 5, &[1])));
+        let actions = compare::command(&mut ours.0, &mut ours.1, 16, 8, flash, memory);
+        let their_actions = twin::command(&mut theirs.0, &mut theirs.1, 16, 8, flash, memory);
+        if (ours, actions) != (theirs, their_actions) {
+            return Err(format!("command {code}: {:02X?}, the second implementation {:02X?}", ours.1, theirs.1));
+        }
+    }
+    // past the end of its flush
+    let (record, done) = (record(2, 2), 100);
+    let (ours, theirs) = (compare::step(&record, flash, memory, done), twin::step(&record, flash, memory, done));
+    if ours != theirs {
+        return Err(format!("step: {ours:?}, the second implementation {theirs:?}"));
+    }
+    Ok(())
+}
+
+/// Numbers of actions done of which only the last bits are those of an action that is left.
+fn counts() -> Result<(), String> {
+    let pair = pair(record(2, 2));
+    let mut counts: Vec<u64> = (0..20).chain(1080..1100).chain([u64::MAX]).collect();
+    for left in [0, 1, 2, 16, 17] {
+        counts.extend((5..64).map(|shift| (1 << shift) + left));
+        counts.extend((2..6).flat_map(|times| [8, 16, 31, 32].map(|shift| (times << shift) + left)));
+        counts.push(u64::MAX - left);
+        counts.push((1 << 63) - 1 - left);
+    }
+    counts.into_iter().try_for_each(|done| pair.clone().step(done))
+}
+
+/// A window whose first block needs both of its bytes, and a flash whose number of blocks does.
+fn far_window() -> Result<(), String> {
+    let blocks = 0x1238;
+    let far = Record { first: 0x1234, size: 2, ..record(2, 2) };
+    let mut pair = Pair::new(far, &pattern(blocks * BLOCK, 10), &pattern(2 * BLOCK, 90), 0xa1b2, 0xc3d4);
+    pair.step(0)?;
+    pair.step(1)?;
+    let commands: [(u8, &[u8]); 8] =
+        [(8, &[]), (3, &[]), (6, &[0x36, 0x12, 1]), (7, &[0, 0, 1]), (2, &[1]), (3, &[]), (7, &[0x36, 0x12, 1]), (5, &[])];
+    for (sequence, (code, arguments)) in (1..).zip(commands) {
+        pair.command(registers(code, sequence, arguments))?;
+    }
+    Ok(())
+}
+
+/// 64 dirty blocks: the most actions, a number of two bytes, and every mark.
+fn most_actions() -> Result<(), String> {
+    let full = Record { first: 1, size: 64, marks: [1; 64], ..record(2, 2) };
+    let pair = Pair::new(full, &pattern(66 * BLOCK, 10), &pattern(64 * BLOCK, 90), 0xa1b2, 0xc3d4);
+    pair.clone().command(registers(8, 5, &[]))?;
+    pair.clone().command(registers(4, 5, &[66]))?;
+    [1086, 1087, 1088].into_iter().try_for_each(|done| pair.clone().step(done))
+}
+
+/// An answer and room behind it that no call may touch.
+#[repr(C)]
+struct Guarded<T> {
+    value: T,
+    after: [u8; 64],
+}
+
+/// What the x86-64 convention makes of an answer in memory: its place is handed over as a first argument.
+fn guarded<T: Copy>(what: &str, call: impl Fn(*mut T)) -> Result<T, String> {
+    let mut room = MaybeUninit::<Guarded<T>>::zeroed();
+    let place = room.as_mut_ptr();
+    unsafe { (*place).after = [0xc7; 64] };
+    call(std::hint::black_box(place).cast());
+    let room = std::hint::black_box(unsafe { room.assume_init() });
+    if room.after == [0xc7; 64] { Ok(room.value) } else { Err(format!("{what}: bytes behind the answer changed")) }
+}
+
+/// The answers in memory end where the header says, and a fresh record has exactly the bytes of 01.
+fn answers() -> Result<(), String> {
+    type Fresh = unsafe extern "C" fn(*mut Record);
+    type Call = unsafe extern "C" fn(*mut [u8; 76], Record);
+    let fresh: Fresh = unsafe { transmute(compare::hiomap_fresh as unsafe extern "C" fn() -> Record) };
+    let bytes: [u8; RECORD] = unsafe { transmute(guarded("hiomap_fresh", |place| fresh(place))?) };
+    let mut expected = [0; RECORD];
+    expected[3] = 0x81;
+    if bytes != expected {
+        return Err(format!("hiomap_fresh: {bytes:02X?}"));
+    }
+    let calls: [(&str, unsafe extern "C" fn(Record) -> Suspended); 3] =
+        [("hiomap_suspend", compare::hiomap_suspend), ("hiomap_resume", compare::hiomap_resume), ("hiomap_resume_changed", compare::hiomap_resume_changed)];
+    for (name, call) in calls {
+        let call: Call = unsafe { transmute(call) };
+        guarded(name, |place| unsafe { call(place, record(2, 2)) })?;
+    }
+    Ok(())
+}
+
+/// The worked input of 01.
+const WORKED: [u8; 43] = [
+    0, 3, 2, 1, 2, 0, 6, 6, 2, 3, 0, 2, 0, 1, 0, 0xac, 2, 0xa5, 1, 0, 6, 7, 3, 0, 0, 2, 0, 0, 6, 7, 4, 0, 0, 1, 0, 0, 2, 8, 4, 0, 2, 8, 5,
+];
+
+fn same_text(how: &str, printed: Result<Vec<u8>, String>, input: &[u8]) -> Result<(), String> {
+    let (ours, theirs) = (printed.map_err(|e| format!("bench, {how}: {e}"))?, second::bench(input));
+    if ours == theirs {
+        return Ok(());
+    }
+    let (ours, theirs) = (String::from_utf8_lossy(&ours).into_owned(), String::from_utf8_lossy(&theirs).into_owned());
+    let line = 1 + ours.lines().zip(theirs.lines()).take_while(|(ours, theirs)| ours == theirs).count();
+    Err(format!("bench, {how}: {} bytes printed and {} expected, the first difference in line {line}", ours.len(), theirs.len()))
+}
+
+/// The bench program: its input in two parts, byte by byte, up to its limit and past it, and a long text.
+fn bench(program: &str) -> Result<(), String> {
+    for at in 0..=WORKED.len() {
+        let (front, rest) = WORKED.split_at(at);
+        same_text(&format!("its input in two parts, {at} bytes first"), program::printed(program, &[front, rest]), &WORKED)?;
+    }
+    let single: Vec<&[u8]> = WORKED.chunks(1).collect();
+    same_text("its input byte by byte", program::printed(program, &single), &WORKED)?;
+    for length in [16383, 16384, 16385, 16386, 200_000] {
+        let input = vec![0; length];
+        for size in [length, 4095, 4096, 4097, 8192, 16384] {
+            let parts: Vec<&[u8]> = input.chunks(size).collect();
+            same_text(&format!("{length} bytes of input in parts of {size}"), program::printed(program, &parts), &input)?;
+        }
+    }
+    same_text("stopped within its first write", program::printed_with_a_stop(program, &[0; 16384]), &[0; 16384])?;
+    let directory = File::open("/").map_err(|e| e.to_string())?;
+    same_text("an input that cannot be read", program::printed_from(program, directory), &[])
+}
+
+fn main() {
+    let program = std::env::var("BENCH").expect("BENCH names the bench program");
+    let sections: Vec<(&str, Box<dyn Fn() -> Result<(), String>>)> = vec![
+        ("answers", Box::new(answers)),
+        ("fields", Box::new(fields)),
+        ("lpc and timeout", Box::new(lpc_and_timeout)),
+        ("registers", Box::new(each_register)),
+        ("lengths", Box::new(lengths)),
+        ("large lengths", Box::new(large_lengths)),
+        ("counts", Box::new(counts)),
+        ("far window", Box::new(far_window)),
+        ("most actions", Box::new(most_actions)),
+        ("wide flags", Box::new(wide_flags)),
+        ("bench", Box::new(move || bench(&program))),
+    ];
+    for (name, section) in &sections {
+        if let Err(difference) = section() {
+            println!("boundary, {name}: {difference}");
+            std::process::exit(1);
+        }
+    }
+    println!("boundary: {}; no difference", sections.iter().map(|(name, _)| *name).collect::<Vec<_>>().join(", "));
+}

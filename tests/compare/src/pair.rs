@@ -1,0 +1,126 @@
+//! Both implementations side by side: the same record, flash and window memory, and every call made on both and compared.
+
+use crate::{twin, Record};
+use std::fmt::{Arguments, Debug};
+use std::hint::black_box;
+
+/// Bytes around what is lent that no call may touch. Odd numbers of them, so that the lent part has any alignment.
+const BEFORE: usize = 33;
+const AFTER: usize = 31;
+const GUARD: u8 = 0xc7;
+
+/// Bytes to lend, with guards around them.
+#[derive(Clone, PartialEq)]
+pub struct Buffer(Vec<u8>);
+
+impl Buffer {
+    pub fn new(content: &[u8]) -> Buffer {
+        let mut all = vec![GUARD; BEFORE];
+        all.extend_from_slice(content);
+        all.extend_from_slice(&[GUARD; AFTER]);
+        Buffer(all)
+    }
+
+    pub fn part(&mut self) -> &mut [u8] {
+        let end = self.0.len() - AFTER;
+        &mut self.0[BEFORE..end]
+    }
+}
+
+/// The record and the registers as C would have them, with guards around each.
+#[repr(C)]
+struct Lent {
+    before: [u8; 64],
+    record: Record,
+    between: [u8; 64],
+    registers: [u8; 16],
+    after: [u8; 64],
+}
+
+impl Lent {
+    fn new(record: Record, registers: [u8; 16]) -> Lent {
+        Lent { before: [GUARD; 64], record, between: [GUARD; 64], registers, after: [GUARD; 64] }
+    }
+
+    fn is_guarded(&self) -> bool {
+        [self.before, self.between, self.after] == [[GUARD; 64]; 3]
+    }
+}
+
+#[derive(Clone, Copy, Debug)]
+pub enum Access {
+    Suspend,
+    Resume,
+    ResumeChanged,
+}
+
+/// Ours is first, the second implementation's second.
+#[derive(Clone)]
+pub struct Pair {
+    pub record: [Record; 2],
+    pub flash: [Buffer; 2],
+    pub memory: [Buffer; 2],
+    pub lpc: u16,
+    pub timeout: u16,
+}
+
+impl Pair {
+    pub fn new(record: Record, flash: &[u8], memory: &[u8], lpc: u16, timeout: u16) -> Pair {
+        let (flash, memory) = (Buffer::new(flash), Buffer::new(memory));
+        Pair { record: [record; 2], flash: [flash.clone(), flash], memory: [memory.clone(), memory], lpc, timeout }
+    }
+
+    pub fn command(&mut self, registers: [u8; 16]) -> Result<(), String> {
+        let mut lent = Lent::new(self.record[0], registers);
+        // lent as a whole goes out of the compiler's sight, so that its guards are read again
+        let lent = black_box(&mut lent);
+        let ours = crate::command(&mut lent.record, &mut lent.registers, self.lpc, self.timeout, self.flash[0].part(), self.memory[0].part());
+        let lent = black_box(lent);
+        if !lent.is_guarded() {
+            return Err(format!("command {registers:02X?}: bytes around the record or the registers changed"));
+        }
+        self.record[0] = lent.record;
+        let mut after = registers;
+        let theirs = twin::command(&mut self.record[1], &mut after, self.lpc, self.timeout, self.flash[1].part(), self.memory[1].part());
+        self.same(format_args!("command {registers:02X?}"), (lent.registers, ours), (after, theirs))
+    }
+
+    pub fn step(&mut self, done: u64) -> Result<(), String> {
+        let ours = crate::step(&self.record[0], self.flash[0].part(), self.memory[0].part(), done);
+        let theirs = twin::step(&self.record[1], self.flash[1].part(), self.memory[1].part(), done);
+        self.same(format_args!("step {done}"), ours, theirs)
+    }
+
+    pub fn access(&mut self, call: Access) -> Result<(), String> {
+        let [ours, theirs] = &mut self.record;
+        let (ours, theirs) = match call {
+            Access::Suspend => (crate::suspend(ours), twin::suspend(theirs)),
+            Access::Resume => (crate::resume(ours), twin::resume(theirs)),
+            Access::ResumeChanged => (crate::resume_changed(ours), twin::resume_changed(theirs)),
+        };
+        self.same(format_args!("{call:?}"), ours, theirs)
+    }
+
+    /// The host writes these bytes to the window memory.
+    pub fn host_write(&mut self, at: usize, bytes: &[u8]) {
+        for memory in &mut self.memory {
+            memory.part()[at..at + bytes.len()].copy_from_slice(bytes);
+        }
+    }
+
+    fn same<T: PartialEq + Debug>(&self, what: Arguments, ours: T, theirs: T) -> Result<(), String> {
+        if ours != theirs {
+            return Err(format!("{what}: answered {ours:02X?}, the second implementation {theirs:02X?} (in hex)"));
+        }
+        if self.record[0] != self.record[1] {
+            return Err(format!("{what}: record {:?}, the second implementation {:?}", self.record[0], self.record[1]));
+        }
+        if self.flash[0] != self.flash[1] {
+            return Err(format!("{what}: flash differs"));
+        }
+        if self.memory[0] != self.memory[1] {
+            return Err(format!("{what}: window memory differs"));
+        }
+        Ok(())
+    }
+}
