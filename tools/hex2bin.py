@@ -13,8 +13,11 @@ def text_of(name):
 
 
 def main():
-    if len(sys.argv) > 2 or sys.argv[1:] in (["-h"], ["--help"]):
-        sys.exit(__doc__)
+    if sys.argv[1:] in (["-h"], ["--help"]):
+        print(__doc__)
+        return
+    if len(sys.argv) > 2:
+        sys.exit("hex2bin: one FILE at most; --help says more")
     try:
         lines = text_of(sys.argv[1] if len(sys.argv) > 1 else "-").split("\n")
     except OSError as error:

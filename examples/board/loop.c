@@ -12,8 +12,10 @@
 #define MEMORY_BLOCKS 2
 #define LPC_BLOCK 16
 #define TIMEOUT 8
+#define MOST_ACTIONS 1088 /* of a flush: 64 dirty blocks, 17 each */
 
 static hiomap_record session;
+static uint8_t mailbox[HIOMAP_REGISTERS]; /* stands for the registers that the host sees */
 static uint8_t flash[FLASH_BLOCKS * HIOMAP_BLOCK_BYTES];
 static uint8_t memory[MEMORY_BLOCKS * HIOMAP_BLOCK_BYTES];
 
@@ -25,14 +27,35 @@ static const char *yes(bool answer) {
     return answer ? "yes" : "no";
 }
 
-/* A mailbox command: the first registers as the host sends them, the others 0. */
+/* The event byte belongs into its register after each change of the record that is no command's. */
+static void show_events(void) {
+    mailbox[HIOMAP_EVENTS] = session.events;
+}
+
+/* The board starts, or the host is reset. A fresh record is not suspended: where another master holds the
+ * flash at that time, hiomap_suspend comes next. */
+static void host_reset(void) {
+    session = hiomap_fresh();
+    show_events();
+    printf("host reset, events %02X\n", mailbox[HIOMAP_EVENTS]);
+}
+
+/* A mailbox command: the host sends the first registers, and 0 in the others up to 14. */
 static void command(const uint8_t *sent, size_t count) {
-    uint8_t registers[HIOMAP_REGISTERS] = {0};
-    memcpy(registers, sent, count);
+    memset(mailbox, 0, HIOMAP_EVENTS);
+    memcpy(mailbox, sent, count);
+
+    uint8_t registers[HIOMAP_REGISTERS];
+    memcpy(registers, mailbox, sizeof registers);
     uint32_t actions = hiomap_command(&session, &registers, LPC_BLOCK, TIMEOUT, whole_flash(),
                                       (hiomap_bytes){memory, sizeof memory});
     for (size_t i = 0; i < HIOMAP_REGISTERS; i++)
-        printf("%02X ", registers[i]);
+        if (i != HIOMAP_RESPONSE)
+            mailbox[i] = registers[i];
+    mailbox[HIOMAP_RESPONSE] = registers[HIOMAP_RESPONSE]; /* last, for it tells the host to read the others */
+
+    for (size_t i = 0; i < HIOMAP_REGISTERS; i++)
+        printf("%02X ", mailbox[i]);
     printf("actions %u\n", (unsigned)actions);
 }
 
@@ -46,7 +69,8 @@ static void command(const uint8_t *sent, size_t count) {
 static void change_access(const char *name, hiomap_suspended (*call)(hiomap_record)) {
     hiomap_suspended answer = call(session);
     session = answer.record;
-    printf("%s %s\n", name, yes(answer.done));
+    show_events();
+    printf("%s %s, events %02X\n", name, yes(answer.done), mailbox[HIOMAP_EVENTS]);
 }
 
 static hiomap_stepped step(uint64_t done) {
@@ -67,8 +91,8 @@ static void print_flash(void) {
 
 int main(void) {
     memset(flash, 0xFF, sizeof flash);
-    session = hiomap_fresh();
     printf("record %zu bytes\n", sizeof session);
+    host_reset();                     /* before the first command: a host may wait for 0x80 in register 15 */
 
     COMMAND(2, 1, 2);                 /* GET_INFO, version 2 */
     COMMAND(6, 2, 1, 0, 0, 0);        /* a write window at block 1, no hint: its 2 blocks are 1 and 2 */
@@ -90,7 +114,7 @@ int main(void) {
 
     uint64_t done = 0;                /* the flush, one action at a time */
     hiomap_stepped last = step(done);
-    while (last.acted) {
+    while (last.acted && done < MOST_ACTIONS) {
         done++;
         last = step(done);
     }
@@ -110,9 +134,21 @@ int main(void) {
     hiomap_stepped broken = step(0);
     printf("step %u %s\n", broken.code, yes(broken.acted));
     change_access("suspend", hiomap_suspend); /* suspend and resume act on any record */
-    printf("window %u events %02X\n", session.window, session.events);
+    printf("window %u\n", session.window);
     change_access("resume changed", hiomap_resume_changed);
-    printf("window %u events %02X\n", session.window, session.events);
+    printf("window %u\n", session.window);
+    session.suspended = 2;            /* a flag above 1 is not sound either; a resume takes it for yes */
+    COMMAND(2, 11, 2);
+    change_access("resume", hiomap_resume);
+    printf("suspended %u\n", session.suspended);
+
+    host_reset();                     /* the host boots again; this one counts from 1 and begins with ACK */
+    COMMAND(9, 1, 1);
+    COMMAND(2, 2, 2);
+    COMMAND(1, 1);                    /* RESET: the last command before the next boot has number 1 */
+    COMMAND(9, 1, 1);                 /* without a fresh record that boot begins with SEQ_ERROR, */
+    host_reset();
+    COMMAND(9, 1, 1);                 /* with one it is served */
     print_flash();
     return 0;
 }
