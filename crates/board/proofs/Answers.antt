@@ -14,15 +14,14 @@ use Rattle.session.specs.declared.Previous.{Previous}
 use Rattle.session.specs.declared.Previous.the-variants.{Absent, Number}
 use Rattle.session.specs.Machine.{Setup, Machine, lent, holding}
 use Rattle.session.specs.Record.{withVersion}
-use Rattle.session.specs.Soundness.{sizesSound, sessionSound, sound, soundAt}
+use Rattle.soundness.specs.Soundness.{sizesSound, sessionSound, sound, soundAt}
 use Rattle.refusals.specs.declared.Reason.the-variants.{System}
 use Rattle.refusals.specs.Refusals.{reasonFor, reasonIn}
 use Rattle.mailbox.specs.Commands.{Outcome, answered}
 use Rattle.mailbox.specs.Mediator.{mediate, answerTo, refused}
 use Rattle.mailbox.proofs.Mediating.{mediate-as}
 use Rattle.board.specs.declared.Record.{Record}
-use Rattle.board.specs.Record.{isYesNo, isYes, yesNo, isWindow, windowOf, windowNumber, previousOf, isNumbered, numberOr, isRegular, sessionOf, recordOf}
-use Rattle.board.specs.Serving.{afterwards}
+use Rattle.board.specs.Record.{isYes, yesNo, windowOf, windowNumber, previousOf, isNumbered, numberOr, isRegular, sessionOf, recordOf, afterwards}
 use Rattle.board.specs.Calls.{Left, left, kept, commanded, systemError}
 
 -- ---- a session of version 255 is refused with SYSTEM_ERROR

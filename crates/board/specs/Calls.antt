@@ -1,9 +1,10 @@
 -- What each call of the board's loop leaves, over the record that C keeps: the definitions of the crates below, of the session that the
 -- record stands for. A record with a number that stands for nothing is not sound.
 use Prim.Native.Nat.{ℕ}
-use mathlib.Core.Bool.{Bool, true, false, cond}
+use mathlib.Core.Bool.{true, false, cond}
 use mathlib.Core.List.{List, []}
 use Rattle.session.specs.Machine.{Setup, setUp, lent}
+use Rattle.session.specs.declared.suspension.Suspension.{Suspension}
 use Rattle.session.specs.Suspension.{suspended, resumed, resumedChanged}
 use Rattle.flush.specs.Window.{Advanced, advanced}
 use Rattle.mailbox.specs.Commands.{Outcome, answered}
@@ -43,26 +44,24 @@ commanded setup h registers flash memory =
     (kept (h .previous) (mediate setup registers (lent (sessionOf h) flash memory)))
     (systemError h registers flash memory)
 
--- a call that has nothing to do "changes nothing and answers no; otherwise they answer yes"
-abbrev pub answerOf : Bool → Record → Record → Suspended
-answerOf done before after = cond done (record { done = true; held = after }) (record { done = false; held = before })
+-- suspend and resume, "on any session, sound or not": a call that has nothing to do "changes nothing and answers no; otherwise they answer
+-- yes", and whether there is a previous number stays, whatever it is
+abbrev pub answerOf : ℕ → Record → Suspension → Suspended
+answerOf window h a =
+    cond (a .done)
+    (record { done = true; held = withNumbers (h .numbered) window (recordOf (h .previous) (a .session)) })
+    (record { done = false; held = h })
 
--- suspend and resume, "on any session, sound or not": whether there is a previous number and the window's number stay, whatever they are
+-- the window's number stays too
 abbrev pub suspendedRecord : Record → Suspended
-suspendedRecord h =
-    answerOf (suspended (sessionOf h) .done) h
-    (withNumbers (h .numbered) (h .window) (recordOf (h .previous) (suspended (sessionOf h) .session)))
+suspendedRecord h = answerOf (h .window) h (suspended (sessionOf h))
 
 abbrev pub resumedRecord : Record → Suspended
-resumedRecord h =
-    answerOf (resumed (sessionOf h) .done) h
-    (withNumbers (h .numbered) (h .window) (recordOf (h .previous) (resumed (sessionOf h) .session)))
+resumedRecord h = answerOf (h .window) h (resumed (sessionOf h))
 
 -- resume with changed flash drops the window, whatever its number
 abbrev pub changedRecord : Record → Suspended
-changedRecord h =
-    answerOf (resumedChanged (sessionOf h) .done) h
-    (withNumbers (h .numbered) 0 (recordOf (h .previous) (resumedChanged (sessionOf h) .session)))
+changedRecord h = answerOf 0 h (resumedChanged (sessionOf h))
 
 -- the answer of a step, as C has it, and the flash
 abbrev pub steppedBy : Stepped → List ℕ → Advanced

@@ -9,7 +9,7 @@ use Rattle.session.specs.declared.Previous.{Previous}
 use Rattle.session.specs.declared.Previous.the-variants.{Absent, Number}
 use Rattle.board.specs.declared.Record.{Record}
 
--- "the window (none, read or write)": the number of each, and the window of a number; a number above 2 is no window's
+-- "the window (none, read or write)": the number of each, and the window of a number
 abbrev pub windowNumber : Window → ℕ
 windowNumber Closed = 0
 windowNumber Read = 1
@@ -18,15 +18,9 @@ windowNumber Write = 2
 abbrev pub windowOf : ℕ → Window
 windowOf n = cond (eqb n 1) Read (cond (eqb n 2) Write Closed)
 
-abbrev pub isWindow : ℕ → Bool
-isWindow n = leb n 2
-
--- a number that stands for yes or no: 0 no, 1 yes; one above 1 is neither
+-- a number that stands for yes or no: 0 no, 1 yes
 abbrev pub yesNo : Bool → ℕ
 yesNo b = cond b 1 0
-
-abbrev pub isYesNo : ℕ → Bool
-isYesNo n = leb n 1
 
 abbrev pub isYes : ℕ → Bool
 isYes n = not (eqb n 0)
@@ -44,9 +38,9 @@ abbrev pub numberOr : ℕ → Previous → ℕ
 numberOr spare Absent = spare
 numberOr spare (Number n) = n
 
--- each number of the record stands for something: a record of which one does not is not sound
+-- each number of the record stands for something, yes or no or a window: a record of which one does not is not sound
 abbrev pub isRegular : Record → Bool
-isRegular h = isYesNo (h .numbered) && (isYesNo (h .suspended) && isWindow (h .window))
+isRegular h = leb (h .numbered) 1 && (leb (h .suspended) 1 && leb (h .window) 2)
 
 -- the session that a record stands for; a number above 1 counts as yes there
 abbrev pub sessionOf : Record → Session
@@ -95,3 +89,9 @@ renumbered version numbered suspended window h =
 -- the same version and suspension
 abbrev pub withNumbers : ℕ → ℕ → Record → Record
 withNumbers numbered window h = renumbered (h .version) numbered (h .suspended) window h
+
+-- the record of a session after a command, or, where the record before was not regular, with its own version and numbers
+abbrev pub afterwards : Bool → Record → Session → Record
+afterwards regular h s =
+    let next = recordOf (h .previous) s in
+    cond regular next (renumbered (h .version) (h .numbered) (h .suspended) (h .window) next)

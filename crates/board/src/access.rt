@@ -13,7 +13,6 @@ use session::resume_changed;
 use session::suspend;
 ghost use mathlib.Core.Path.{_≡_};
 ghost use Rattle.flush.specs.Window.{stepCode, stepYes};
-ghost use Rattle.board.specs.Record.{recordOf, withNumbers};
 ghost use Rattle.board.specs.Calls.{answerOf, suspendedRecord, resumedRecord, changedRecord, steppedBy, steppedRecord};
 
 // Flash access is suspended.
@@ -44,7 +43,7 @@ pub extern "C" fn hiomap_resume_changed(held: Record) -> Suspended
 // Yes and the record afterwards, with a window number, or no and the record as it was. Whether there is a
 // previous number stays, whatever it is.
 fn with_numbers(held: Record, answer: Suspension, window: u8) -> Suspended
-    ensures { λ r. ⌜ r ≡ answerOf (answer .done) held (withNumbers (held .numbered) window (recordOf (held .previous) (answer .session))) ⌝ }
+    ensures { λ r. ⌜ r ≡ answerOf window held answer ⌝ }
 {
     if !answer.done {
         return Suspended { done: false, held };

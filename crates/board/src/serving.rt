@@ -10,8 +10,7 @@ ghost use mathlib.Core.Path.{_≡_};
 ghost use mathlib.Core.Bool.{cond};
 ghost use Rattle.session.specs.Record.{withVersion};
 ghost use Rattle.board.specs.Calls.{board, left, commanded};
-ghost use Rattle.board.specs.Record.{sessionOf};
-ghost use Rattle.board.specs.Serving.{afterwards};
+ghost use Rattle.board.specs.Record.{sessionOf, afterwards};
 
 // A version that no later one reaches, so that it is never sound.
 const UNSOUND_VERSION: u8 = 255;

@@ -1,7 +1,7 @@
 -- The twelve examples of document 01 hold, by computation from the definitions.
 use mathlib.Core.Path.{refl}
 use Rattle.chip.specs.Actions.{erased, programmed}
-use Rattle.session.specs.Soundness.{sizeSound, sizesSound, sessionSound, sound, soundAt}
+use Rattle.soundness.specs.Soundness.{sizeSound, sizesSound, sessionSound, sound, soundAt}
 use Rattle.flush.specs.Actions.{blockActions, actionsFrom, flushActions, perform, performAll}
 use Rattle.flush.specs.Window.{performIn, advanced, flushWhole}
 use Rattle.refusals.specs.Refusals.{reasonFor}

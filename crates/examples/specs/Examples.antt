@@ -41,24 +41,19 @@ infix 68 _shows_
 pub data Line : Type 0 where
   _shows_ : Call → List Check → Line
 
--- an example: where it starts, and its calls in order
-pub record Example : Type 0 where
-  pub start : State
-  pub lines : List Line
+-- an example: its calls in order
+abbrev pub Example : Type 0
+Example = List Line
 
 -- the test holds of every element
 abbrev pub every : {A : Type 0} → (A → Bool) → List A → Bool
 every test [] = true
 every test (x ∷ xs) = test x && every test xs
 
--- from this state on all checks of all lines pass, where each call is given what the one before left
-abbrev pub passes : State → List Line → Bool
+-- it holds from a state on: all checks of all lines pass, where each call is given what the one before left
+abbrev pub passes : State → Example → Bool
 passes s [] = true
 passes s ((call shows checks) ∷ lines) = let next = call s in every (λ check. check next) checks && passes next lines
-
--- an example holds
-abbrev pub holds : Example → Bool
-holds example = passes (example .start) (example .lines)
 
 -- ---- where the examples start
 
@@ -71,13 +66,15 @@ abbrev pub blocks : List ℕ → List ℕ
 blocks [] = []
 blocks (value ∷ values) = replicate blockBytes value ++ blocks values
 
--- a fresh session with this flash and window memory
-abbrev pub freshWith : List ℕ → List ℕ → State
-freshWith flash memory = record { machine = lent fresh flash memory; code = 0; arguments = []; actions = 0 }
-
--- "S = 4, C = 2"; no two blocks are alike
+-- "S = 4, C = 2", a fresh session; no two blocks are alike
 abbrev pub start : State
-start = freshWith (blocks (0xa0 ∷ 0xa1 ∷ 0xa2 ∷ 0xa3 ∷ [])) (blocks (0xb0 ∷ 0xb1 ∷ []))
+start =
+    record {
+      machine = lent fresh (blocks (0xa0 ∷ 0xa1 ∷ 0xa2 ∷ 0xa3 ∷ [])) (blocks (0xb0 ∷ 0xb1 ∷ []));
+      code = 0;
+      arguments = [];
+      actions = 0;
+    }
 
 -- ---- the calls
 
@@ -122,13 +119,17 @@ changed m s = record { machine = m; code = s .code; arguments = s .arguments; ac
 abbrev pub suspend : Call
 suspend s = changed (holding (suspended (s .machine .session) .session) (s .machine)) s
 
+-- another flash and window memory are lent
+abbrev pub lend : List ℕ → List ℕ → Call
+lend flash memory s = changed (lent (s .machine .session) flash memory) s
+
 -- the host writes these bytes to the front of window memory
 abbrev pub write : List ℕ → Call
-write bytes s = changed (lent (s .machine .session) (s .machine .flash) (replace 0 bytes (s .machine .memory))) s
+write bytes s = lend (s .machine .flash) (replace 0 bytes (s .machine .memory)) s
 
 -- a chip action by itself
 abbrev pub act : Action → Call
-act action s = changed (lent (s .machine .session) (perform (s .machine .memory) action (s .machine .flash)) (s .machine .memory)) s
+act action s = lend (perform (s .machine .memory) action (s .machine .flash)) (s .machine .memory) s
 
 -- ---- the checks
 
@@ -187,125 +188,93 @@ memory expected s = same (s .machine .memory) expected
 -- "1. GET_INFO r = 0 refused; 1 gives 1; 255 gives 2."
 abbrev pub example1 : Example
 example1 =
-    record {
-      start = start;
-      lines =
-          command (2 ∷ 1 ∷ 0 ∷ []) shows (refused 2 ∷ version 0 ∷ [])
-          ∷ command (2 ∷ 2 ∷ 2 ∷ []) shows (code 1 ∷ version 2 ∷ [])
-          ∷ command (2 ∷ 3 ∷ 0 ∷ []) shows (refused 2 ∷ version 2 ∷ [])
-          ∷ command (2 ∷ 4 ∷ 1 ∷ []) shows (code 1 ∷ arguments (1 ∷ 2 ∷ 0 ∷ 2 ∷ 0 ∷ []) ∷ version 1 ∷ [])
-          ∷ command (2 ∷ 5 ∷ 255 ∷ []) shows (code 1 ∷ arguments (2 ∷ 0 ∷ 0 ∷ 0 ∷ 0 ∷ 12 ∷ 8 ∷ 0 ∷ []) ∷ version 2 ∷ [])
-          ∷ [];
-    }
+    command (2 ∷ 1 ∷ 0 ∷ []) shows (refused 2 ∷ version 0 ∷ [])
+    ∷ command (2 ∷ 2 ∷ 2 ∷ []) shows (code 1 ∷ version 2 ∷ [])
+    ∷ command (2 ∷ 3 ∷ 0 ∷ []) shows (refused 2 ∷ version 2 ∷ [])
+    ∷ command (2 ∷ 4 ∷ 1 ∷ []) shows (code 1 ∷ arguments (1 ∷ 2 ∷ 0 ∷ 2 ∷ 0 ∷ []) ∷ version 1 ∷ [])
+    ∷ command (2 ∷ 5 ∷ 255 ∷ []) shows (code 1 ∷ arguments (2 ∷ 0 ∷ 0 ∷ 0 ∷ 0 ∷ 12 ∷ 8 ∷ 0 ∷ []) ∷ version 2 ∷ [])
+    ∷ []
 
 -- "2. Create at 3: size 1. At 4: refused, no window.": of both kinds
 abbrev pub example2 : Example
 example2 =
-    record {
-      start = start;
-      lines =
-          command (2 ∷ 1 ∷ 2 ∷ []) shows (version 2 ∷ [])
-          ∷ command (4 ∷ 2 ∷ 3 ∷ 0 ∷ []) shows (code 1 ∷ arguments (16 ∷ 0 ∷ 1 ∷ 0 ∷ 3 ∷ 0 ∷ []) ∷ window Read 3 1 ∷ [])
-          ∷ command (4 ∷ 3 ∷ 4 ∷ 0 ∷ []) shows (refused 2 ∷ window Closed 0 0 ∷ memory (blocks (0xa3 ∷ 0xb1 ∷ [])) ∷ [])
-          ∷ command (6 ∷ 4 ∷ 3 ∷ 0 ∷ []) shows (code 1 ∷ arguments (16 ∷ 0 ∷ 1 ∷ 0 ∷ 3 ∷ 0 ∷ []) ∷ window Write 3 1 ∷ [])
-          ∷ command (6 ∷ 5 ∷ 4 ∷ 0 ∷ []) shows (refused 2 ∷ window Closed 0 0 ∷ memory (blocks (0xa3 ∷ 0xb1 ∷ [])) ∷ [])
-          ∷ [];
-    }
+    command (2 ∷ 1 ∷ 2 ∷ []) shows (version 2 ∷ [])
+    ∷ command (4 ∷ 2 ∷ 3 ∷ 0 ∷ []) shows (code 1 ∷ arguments (16 ∷ 0 ∷ 1 ∷ 0 ∷ 3 ∷ 0 ∷ []) ∷ window Read 3 1 ∷ [])
+    ∷ command (4 ∷ 3 ∷ 4 ∷ 0 ∷ []) shows (refused 2 ∷ window Closed 0 0 ∷ memory (blocks (0xa3 ∷ 0xb1 ∷ [])) ∷ [])
+    ∷ command (6 ∷ 4 ∷ 3 ∷ 0 ∷ []) shows (code 1 ∷ arguments (16 ∷ 0 ∷ 1 ∷ 0 ∷ 3 ∷ 0 ∷ []) ∷ window Write 3 1 ∷ [])
+    ∷ command (6 ∷ 5 ∷ 4 ∷ 0 ∷ []) shows (refused 2 ∷ window Closed 0 0 ∷ memory (blocks (0xa3 ∷ 0xb1 ∷ [])) ∷ [])
+    ∷ []
 
 -- "3. Create at 0: n = 0 gives 2, n = 1 gives 1, n = 65,535 gives 2.": of both kinds
 abbrev pub example3 : Example
 example3 =
-    record {
-      start = start;
-      lines =
-          command (2 ∷ 1 ∷ 2 ∷ []) shows (version 2 ∷ [])
-          ∷ command (4 ∷ 2 ∷ 0 ∷ 0 ∷ 0 ∷ 0 ∷ []) shows (code 1 ∷ arguments (16 ∷ 0 ∷ 2 ∷ 0 ∷ 0 ∷ 0 ∷ []) ∷ window Read 0 2 ∷ [])
-          ∷ command (4 ∷ 3 ∷ 0 ∷ 0 ∷ 1 ∷ 0 ∷ []) shows (code 1 ∷ arguments (16 ∷ 0 ∷ 1 ∷ 0 ∷ 0 ∷ 0 ∷ []) ∷ window Read 0 1 ∷ [])
-          ∷ command (4 ∷ 4 ∷ 0 ∷ 0 ∷ 255 ∷ 255 ∷ []) shows (code 1 ∷ arguments (16 ∷ 0 ∷ 2 ∷ 0 ∷ 0 ∷ 0 ∷ []) ∷ window Read 0 2 ∷ [])
-          ∷ command (6 ∷ 5 ∷ 0 ∷ 0 ∷ 0 ∷ 0 ∷ []) shows (code 1 ∷ arguments (16 ∷ 0 ∷ 2 ∷ 0 ∷ 0 ∷ 0 ∷ []) ∷ window Write 0 2 ∷ [])
-          ∷ command (6 ∷ 6 ∷ 0 ∷ 0 ∷ 1 ∷ 0 ∷ []) shows (code 1 ∷ arguments (16 ∷ 0 ∷ 1 ∷ 0 ∷ 0 ∷ 0 ∷ []) ∷ window Write 0 1 ∷ [])
-          ∷ command (6 ∷ 7 ∷ 0 ∷ 0 ∷ 255 ∷ 255 ∷ []) shows (code 1 ∷ arguments (16 ∷ 0 ∷ 2 ∷ 0 ∷ 0 ∷ 0 ∷ []) ∷ window Write 0 2 ∷ [])
-          ∷ [];
-    }
+    command (2 ∷ 1 ∷ 2 ∷ []) shows (version 2 ∷ [])
+    ∷ command (4 ∷ 2 ∷ 0 ∷ 0 ∷ 0 ∷ 0 ∷ []) shows (code 1 ∷ arguments (16 ∷ 0 ∷ 2 ∷ 0 ∷ 0 ∷ 0 ∷ []) ∷ window Read 0 2 ∷ [])
+    ∷ command (4 ∷ 3 ∷ 0 ∷ 0 ∷ 1 ∷ 0 ∷ []) shows (code 1 ∷ arguments (16 ∷ 0 ∷ 1 ∷ 0 ∷ 0 ∷ 0 ∷ []) ∷ window Read 0 1 ∷ [])
+    ∷ command (4 ∷ 4 ∷ 0 ∷ 0 ∷ 255 ∷ 255 ∷ []) shows (code 1 ∷ arguments (16 ∷ 0 ∷ 2 ∷ 0 ∷ 0 ∷ 0 ∷ []) ∷ window Read 0 2 ∷ [])
+    ∷ command (6 ∷ 5 ∷ 0 ∷ 0 ∷ 0 ∷ 0 ∷ []) shows (code 1 ∷ arguments (16 ∷ 0 ∷ 2 ∷ 0 ∷ 0 ∷ 0 ∷ []) ∷ window Write 0 2 ∷ [])
+    ∷ command (6 ∷ 6 ∷ 0 ∷ 0 ∷ 1 ∷ 0 ∷ []) shows (code 1 ∷ arguments (16 ∷ 0 ∷ 1 ∷ 0 ∷ 0 ∷ 0 ∷ []) ∷ window Write 0 1 ∷ [])
+    ∷ command (6 ∷ 7 ∷ 0 ∷ 0 ∷ 255 ∷ 255 ∷ []) shows (code 1 ∷ arguments (16 ∷ 0 ∷ 2 ∷ 0 ∷ 0 ∷ 0 ∷ []) ∷ window Write 0 2 ∷ [])
+    ∷ []
 
 -- "4. Write window, size 2: w = 65,535, k = 2: PARAM_ERROR.": by MARK_DIRTY and by ERASE
 abbrev pub example4 : Example
 example4 =
-    record {
-      start = start;
-      lines =
-          command (2 ∷ 1 ∷ 2 ∷ []) shows (version 2 ∷ [])
-          ∷ command (6 ∷ 2 ∷ 0 ∷ 0 ∷ []) shows (window Write 0 2 ∷ [])
-          ∷ command (7 ∷ 3 ∷ 255 ∷ 255 ∷ 2 ∷ 0 ∷ []) shows (refused 2 ∷ marks [] ∷ [])
-          ∷ command (10 ∷ 4 ∷ 255 ∷ 255 ∷ 2 ∷ 0 ∷ []) shows (refused 2 ∷ marks [] ∷ memory (blocks (0xa0 ∷ 0xa1 ∷ [])) ∷ [])
-          ∷ [];
-    }
+    command (2 ∷ 1 ∷ 2 ∷ []) shows (version 2 ∷ [])
+    ∷ command (6 ∷ 2 ∷ 0 ∷ 0 ∷ []) shows (window Write 0 2 ∷ [])
+    ∷ command (7 ∷ 3 ∷ 255 ∷ 255 ∷ 2 ∷ 0 ∷ []) shows (refused 2 ∷ marks [] ∷ [])
+    ∷ command (10 ∷ 4 ∷ 255 ∷ 255 ∷ 2 ∷ 0 ∷ []) shows (refused 2 ∷ marks [] ∷ memory (blocks (0xa0 ∷ 0xa1 ∷ [])) ∷ [])
+    ∷ []
 
 -- "5. There: w = 2, k = 0 succeeds; w = 3, k = 0 refused.": by MARK_DIRTY and by ERASE
 abbrev pub example5 : Example
 example5 =
-    record {
-      start = start;
-      lines =
-          command (2 ∷ 1 ∷ 2 ∷ []) shows (version 2 ∷ [])
-          ∷ command (6 ∷ 2 ∷ 0 ∷ 0 ∷ []) shows (window Write 0 2 ∷ [])
-          ∷ command (7 ∷ 3 ∷ 2 ∷ 0 ∷ 0 ∷ 0 ∷ []) shows (code 1 ∷ arguments [] ∷ marks [] ∷ [])
-          ∷ command (7 ∷ 4 ∷ 3 ∷ 0 ∷ 0 ∷ 0 ∷ []) shows (refused 2 ∷ marks [] ∷ [])
-          ∷ command (10 ∷ 5 ∷ 2 ∷ 0 ∷ 0 ∷ 0 ∷ []) shows (code 1 ∷ arguments [] ∷ marks [] ∷ memory (blocks (0xa0 ∷ 0xa1 ∷ [])) ∷ [])
-          ∷ command (10 ∷ 6 ∷ 3 ∷ 0 ∷ 0 ∷ 0 ∷ []) shows (refused 2 ∷ marks [] ∷ memory (blocks (0xa0 ∷ 0xa1 ∷ [])) ∷ [])
-          ∷ [];
-    }
+    command (2 ∷ 1 ∷ 2 ∷ []) shows (version 2 ∷ [])
+    ∷ command (6 ∷ 2 ∷ 0 ∷ 0 ∷ []) shows (window Write 0 2 ∷ [])
+    ∷ command (7 ∷ 3 ∷ 2 ∷ 0 ∷ 0 ∷ 0 ∷ []) shows (code 1 ∷ arguments [] ∷ marks [] ∷ [])
+    ∷ command (7 ∷ 4 ∷ 3 ∷ 0 ∷ 0 ∷ 0 ∷ []) shows (refused 2 ∷ marks [] ∷ [])
+    ∷ command (10 ∷ 5 ∷ 2 ∷ 0 ∷ 0 ∷ 0 ∷ []) shows (code 1 ∷ arguments [] ∷ marks [] ∷ memory (blocks (0xa0 ∷ 0xa1 ∷ [])) ∷ [])
+    ∷ command (10 ∷ 6 ∷ 3 ∷ 0 ∷ 0 ∷ 0 ∷ []) shows (refused 2 ∷ marks [] ∷ memory (blocks (0xa0 ∷ 0xa1 ∷ [])) ∷ [])
+    ∷ []
 
 -- "6. Version 1, window 1 to 2, a = 1: L = 4,096 marks one block, 4,097 two, 8,193 refused. a = 0, L = 1 refused."; 4,096 is 0x1000 and
 -- 8,193 is 0x2001, and the second create leaves no mark of the first window
 abbrev pub example6 : Example
 example6 =
-    record {
-      start = start;
-      lines =
-          command (2 ∷ 1 ∷ 1 ∷ []) shows (version 1 ∷ [])
-          ∷ command (6 ∷ 2 ∷ 1 ∷ 0 ∷ []) shows (code 1 ∷ arguments (16 ∷ 0 ∷ []) ∷ window Write 1 2 ∷ marks [] ∷ [])
-          ∷ command (7 ∷ 3 ∷ 1 ∷ 0 ∷ 0x00 ∷ 0x10 ∷ 0 ∷ 0 ∷ []) shows (code 1 ∷ arguments [] ∷ marks (1 ∷ []) ∷ [])
-          ∷ command (6 ∷ 4 ∷ 1 ∷ 0 ∷ []) shows (code 1 ∷ actions 17 ∷ window Write 1 2 ∷ marks [] ∷ [])
-          ∷ command (7 ∷ 5 ∷ 1 ∷ 0 ∷ 0x01 ∷ 0x20 ∷ 0 ∷ 0 ∷ []) shows (refused 2 ∷ marks [] ∷ [])
-          ∷ command (7 ∷ 6 ∷ 0 ∷ 0 ∷ 0x01 ∷ 0x00 ∷ 0 ∷ 0 ∷ []) shows (refused 2 ∷ marks [] ∷ [])
-          ∷ command (7 ∷ 7 ∷ 1 ∷ 0 ∷ 0x01 ∷ 0x10 ∷ 0 ∷ 0 ∷ []) shows (code 1 ∷ arguments [] ∷ marks (1 ∷ 1 ∷ []) ∷ [])
-          ∷ [];
-    }
+    command (2 ∷ 1 ∷ 1 ∷ []) shows (version 1 ∷ [])
+    ∷ command (6 ∷ 2 ∷ 1 ∷ 0 ∷ []) shows (code 1 ∷ arguments (16 ∷ 0 ∷ []) ∷ window Write 1 2 ∷ marks [] ∷ [])
+    ∷ command (7 ∷ 3 ∷ 1 ∷ 0 ∷ 0x00 ∷ 0x10 ∷ 0 ∷ 0 ∷ []) shows (code 1 ∷ arguments [] ∷ marks (1 ∷ []) ∷ [])
+    ∷ command (6 ∷ 4 ∷ 1 ∷ 0 ∷ []) shows (code 1 ∷ actions 17 ∷ window Write 1 2 ∷ marks [] ∷ [])
+    ∷ command (7 ∷ 5 ∷ 1 ∷ 0 ∷ 0x01 ∷ 0x20 ∷ 0 ∷ 0 ∷ []) shows (refused 2 ∷ marks [] ∷ [])
+    ∷ command (7 ∷ 6 ∷ 0 ∷ 0 ∷ 0x01 ∷ 0x00 ∷ 0 ∷ 0 ∷ []) shows (refused 2 ∷ marks [] ∷ [])
+    ∷ command (7 ∷ 7 ∷ 1 ∷ 0 ∷ 0x01 ∷ 0x10 ∷ 0 ∷ 0 ∷ []) shows (code 1 ∷ arguments [] ∷ marks (1 ∷ 1 ∷ []) ∷ [])
+    ∷ []
 
 -- "7. MARK_DIRTY in a read window: 7; at version 1: 2.": of a block that the window has
 abbrev pub example7 : Example
 example7 =
-    record {
-      start = start;
-      lines =
-          command (2 ∷ 1 ∷ 2 ∷ []) shows (version 2 ∷ [])
-          ∷ command (4 ∷ 2 ∷ 0 ∷ 0 ∷ []) shows (window Read 0 2 ∷ [])
-          ∷ command (7 ∷ 3 ∷ 0 ∷ 0 ∷ 1 ∷ 0 ∷ []) shows (refused 7 ∷ marks [] ∷ [])
-          ∷ command (2 ∷ 4 ∷ 1 ∷ []) shows (version 1 ∷ window Read 0 2 ∷ [])
-          ∷ command (7 ∷ 5 ∷ 0 ∷ 0 ∷ 0x00 ∷ 0x10 ∷ 0 ∷ 0 ∷ []) shows (refused 2 ∷ marks [] ∷ [])
-          ∷ [];
-    }
+    command (2 ∷ 1 ∷ 2 ∷ []) shows (version 2 ∷ [])
+    ∷ command (4 ∷ 2 ∷ 0 ∷ 0 ∷ []) shows (window Read 0 2 ∷ [])
+    ∷ command (7 ∷ 3 ∷ 0 ∷ 0 ∷ 1 ∷ 0 ∷ []) shows (refused 7 ∷ marks [] ∷ [])
+    ∷ command (2 ∷ 4 ∷ 1 ∷ []) shows (version 1 ∷ window Read 0 2 ∷ [])
+    ∷ command (7 ∷ 5 ∷ 0 ∷ 0 ∷ 0x00 ∷ 0x10 ∷ 0 ∷ 0 ∷ []) shows (refused 2 ∷ marks [] ∷ [])
+    ∷ []
 
 -- "8. Erase then dirty: 17 actions. Dirty then erase: 1.": flash block 1, the first of a window of two. The host writes the whole window each
 -- time; block 2 has no mark and stays, and the erased block is FF all the same
 abbrev pub example8 : Example
 example8 =
-    record {
-      start = start;
-      lines =
-          command (2 ∷ 1 ∷ 2 ∷ []) shows (version 2 ∷ [])
-          ∷ command (6 ∷ 2 ∷ 1 ∷ 0 ∷ []) shows (window Write 1 2 ∷ memory (blocks (0xa1 ∷ 0xa2 ∷ [])) ∷ [])
-          ∷ command (10 ∷ 3 ∷ 0 ∷ 0 ∷ 1 ∷ 0 ∷ []) shows (code 1 ∷ marks (2 ∷ []) ∷ memory (blocks (0xff ∷ 0xa2 ∷ [])) ∷ [])
-          ∷ write (blocks (0x3c ∷ 0x3c ∷ [])) shows []
-          ∷ command (7 ∷ 4 ∷ 0 ∷ 0 ∷ 1 ∷ 0 ∷ []) shows (code 1 ∷ marks (1 ∷ []) ∷ [])
-          ∷ command (8 ∷ 5 ∷ []) shows (code 1 ∷ actions 17 ∷ marks [] ∷ flash (blocks (0xa0 ∷ 0x3c ∷ 0xa2 ∷ 0xa3 ∷ [])) ∷ [])
-          ∷ command (7 ∷ 6 ∷ 0 ∷ 0 ∷ 1 ∷ 0 ∷ []) shows (code 1 ∷ marks (1 ∷ []) ∷ [])
-          ∷ command (10 ∷ 7 ∷ 0 ∷ 0 ∷ 1 ∷ 0 ∷ []) shows (code 1 ∷ marks (2 ∷ []) ∷ memory (blocks (0xff ∷ 0x3c ∷ [])) ∷ [])
-          ∷ write (blocks (0x5a ∷ 0x5a ∷ [])) shows []
-          ∷ command (8 ∷ 8 ∷ []) shows (code 1 ∷ actions 1 ∷ marks [] ∷ flash (blocks (0xa0 ∷ 0xff ∷ 0xa2 ∷ 0xa3 ∷ [])) ∷ [])
-          ∷ [];
-    }
+    command (2 ∷ 1 ∷ 2 ∷ []) shows (version 2 ∷ [])
+    ∷ command (6 ∷ 2 ∷ 1 ∷ 0 ∷ []) shows (window Write 1 2 ∷ memory (blocks (0xa1 ∷ 0xa2 ∷ [])) ∷ [])
+    ∷ command (10 ∷ 3 ∷ 0 ∷ 0 ∷ 1 ∷ 0 ∷ []) shows (code 1 ∷ marks (2 ∷ []) ∷ memory (blocks (0xff ∷ 0xa2 ∷ [])) ∷ [])
+    ∷ write (blocks (0x3c ∷ 0x3c ∷ [])) shows []
+    ∷ command (7 ∷ 4 ∷ 0 ∷ 0 ∷ 1 ∷ 0 ∷ []) shows (code 1 ∷ marks (1 ∷ []) ∷ [])
+    ∷ command (8 ∷ 5 ∷ []) shows (code 1 ∷ actions 17 ∷ marks [] ∷ flash (blocks (0xa0 ∷ 0x3c ∷ 0xa2 ∷ 0xa3 ∷ [])) ∷ [])
+    ∷ command (7 ∷ 6 ∷ 0 ∷ 0 ∷ 1 ∷ 0 ∷ []) shows (code 1 ∷ marks (1 ∷ []) ∷ [])
+    ∷ command (10 ∷ 7 ∷ 0 ∷ 0 ∷ 1 ∷ 0 ∷ []) shows (code 1 ∷ marks (2 ∷ []) ∷ memory (blocks (0xff ∷ 0x3c ∷ [])) ∷ [])
+    ∷ write (blocks (0x5a ∷ 0x5a ∷ [])) shows []
+    ∷ command (8 ∷ 8 ∷ []) shows (code 1 ∷ actions 1 ∷ marks [] ∷ flash (blocks (0xa0 ∷ 0xff ∷ 0xa2 ∷ 0xa3 ∷ [])) ∷ [])
+    ∷ []
 
 -- so many steps in a row that each do an action
 abbrev pub steps : ℕ → ℕ → List Line
@@ -324,63 +293,48 @@ withBlock1 bytes = blocks (0xa0 ∷ []) ++ (bytes ++ blocks (0xa2 ∷ 0xa3 ∷ [
 -- The new bytes of the first page are not those of the rest, and an 18th step finds nothing to do
 abbrev pub example9 : Example
 example9 =
-    record {
-      start = start;
-      lines =
-          command (2 ∷ 1 ∷ 2 ∷ []) shows (version 2 ∷ [])
-          ∷ command (6 ∷ 2 ∷ 1 ∷ 0 ∷ 1 ∷ 0 ∷ []) shows (window Write 1 1 ∷ [])
-          ∷ write (paged 0x11 0x3c) shows []
-          ∷ command (7 ∷ 3 ∷ 0 ∷ 0 ∷ 1 ∷ 0 ∷ []) shows (marks (1 ∷ []) ∷ flash (start .machine .flash) ∷ [])
-          ∷ step 0 shows (code 1 ∷ actions 1 ∷ flash (withBlock1 (paged 0xff 0xff)) ∷ [])
-          ∷ step 1 shows (code 1 ∷ actions 1 ∷ flash (withBlock1 (paged 0x11 0xff)) ∷ [])
-          ∷ (steps 2 14
-          ++ (step 16 shows (code 1 ∷ actions 1 ∷ flash (withBlock1 (paged 0x11 0x3c)) ∷ [])
-          ∷ step 17 shows (code 1 ∷ actions 0 ∷ marks (1 ∷ []) ∷ flash (withBlock1 (paged 0x11 0x3c)) ∷ [])
-          ∷ []));
-    }
+    command (2 ∷ 1 ∷ 2 ∷ []) shows (version 2 ∷ [])
+    ∷ command (6 ∷ 2 ∷ 1 ∷ 0 ∷ 1 ∷ 0 ∷ []) shows (window Write 1 1 ∷ [])
+    ∷ write (paged 0x11 0x3c) shows []
+    ∷ command (7 ∷ 3 ∷ 0 ∷ 0 ∷ 1 ∷ 0 ∷ []) shows (marks (1 ∷ []) ∷ flash (start .machine .flash) ∷ [])
+    ∷ step 0 shows (code 1 ∷ actions 1 ∷ flash (withBlock1 (paged 0xff 0xff)) ∷ [])
+    ∷ step 1 shows (code 1 ∷ actions 1 ∷ flash (withBlock1 (paged 0x11 0xff)) ∷ [])
+    ∷ (steps 2 14
+    ++ (step 16 shows (code 1 ∷ actions 1 ∷ flash (withBlock1 (paged 0x11 0x3c)) ∷ [])
+    ∷ step 17 shows (code 1 ∷ actions 0 ∷ marks (1 ∷ []) ∷ flash (withBlock1 (paged 0x11 0x3c)) ∷ [])
+    ∷ []))
 
 -- "10. Suspended FLUSH: 6; at version 1: 5."; the mark and the flash stay
 abbrev pub example10 : Example
 example10 =
-    record {
-      start = start;
-      lines =
-          command (2 ∷ 1 ∷ 2 ∷ []) shows (version 2 ∷ [])
-          ∷ command (6 ∷ 2 ∷ 1 ∷ 0 ∷ []) shows (window Write 1 2 ∷ [])
-          ∷ write (blocks (0x3c ∷ 0x3c ∷ [])) shows []
-          ∷ command (7 ∷ 3 ∷ 0 ∷ 0 ∷ 1 ∷ 0 ∷ []) shows (marks (1 ∷ []) ∷ [])
-          ∷ suspend shows []
-          ∷ command (8 ∷ 4 ∷ []) shows (refused 6 ∷ actions 0 ∷ marks (1 ∷ []) ∷ flash (start .machine .flash) ∷ [])
-          ∷ command (2 ∷ 5 ∷ 1 ∷ []) shows (version 1 ∷ [])
-          ∷ command (8 ∷ 6 ∷ []) shows (refused 5 ∷ actions 0 ∷ marks (1 ∷ []) ∷ flash (start .machine .flash) ∷ [])
-          ∷ [];
-    }
+    command (2 ∷ 1 ∷ 2 ∷ []) shows (version 2 ∷ [])
+    ∷ command (6 ∷ 2 ∷ 1 ∷ 0 ∷ []) shows (window Write 1 2 ∷ [])
+    ∷ write (blocks (0x3c ∷ 0x3c ∷ [])) shows []
+    ∷ command (7 ∷ 3 ∷ 0 ∷ 0 ∷ 1 ∷ 0 ∷ []) shows (marks (1 ∷ []) ∷ [])
+    ∷ suspend shows []
+    ∷ command (8 ∷ 4 ∷ []) shows (refused 6 ∷ actions 0 ∷ marks (1 ∷ []) ∷ flash (start .machine .flash) ∷ [])
+    ∷ command (2 ∷ 5 ∷ 1 ∷ []) shows (version 1 ∷ [])
+    ∷ command (8 ∷ 6 ∷ []) shows (refused 5 ∷ actions 0 ∷ marks (1 ∷ []) ∷ flash (start .machine .flash) ∷ [])
+    ∷ []
 
 -- "11. Repeated sequence: 8; at version 1: 2; GET_INFO served.": the command that repeats is a create, which another number gets through
 abbrev pub example11 : Example
 example11 =
-    record {
-      start = start;
-      lines =
-          command (2 ∷ 1 ∷ 2 ∷ []) shows (version 2 ∷ [])
-          ∷ command (6 ∷ 1 ∷ 0 ∷ 0 ∷ []) shows (refused 8 ∷ window Closed 0 0 ∷ [])
-          ∷ command (2 ∷ 1 ∷ 1 ∷ []) shows (code 1 ∷ arguments (1 ∷ 2 ∷ 0 ∷ 2 ∷ 0 ∷ []) ∷ version 1 ∷ [])
-          ∷ command (6 ∷ 1 ∷ 0 ∷ 0 ∷ []) shows (refused 2 ∷ window Closed 0 0 ∷ [])
-          ∷ command (2 ∷ 1 ∷ 2 ∷ []) shows (code 1 ∷ arguments (2 ∷ 0 ∷ 0 ∷ 0 ∷ 0 ∷ 12 ∷ 8 ∷ 0 ∷ []) ∷ version 2 ∷ [])
-          ∷ command (6 ∷ 2 ∷ 0 ∷ 0 ∷ []) shows (code 1 ∷ window Write 0 2 ∷ [])
-          ∷ [];
-    }
+    command (2 ∷ 1 ∷ 2 ∷ []) shows (version 2 ∷ [])
+    ∷ command (6 ∷ 1 ∷ 0 ∷ 0 ∷ []) shows (refused 8 ∷ window Closed 0 0 ∷ [])
+    ∷ command (2 ∷ 1 ∷ 1 ∷ []) shows (code 1 ∷ arguments (1 ∷ 2 ∷ 0 ∷ 2 ∷ 0 ∷ []) ∷ version 1 ∷ [])
+    ∷ command (6 ∷ 1 ∷ 0 ∷ 0 ∷ []) shows (refused 2 ∷ window Closed 0 0 ∷ [])
+    ∷ command (2 ∷ 1 ∷ 2 ∷ []) shows (code 1 ∷ arguments (2 ∷ 0 ∷ 0 ∷ 0 ∷ 0 ∷ 12 ∷ 8 ∷ 0 ∷ []) ∷ version 2 ∷ [])
+    ∷ command (6 ∷ 2 ∷ 0 ∷ 0 ∷ []) shows (code 1 ∷ window Write 0 2 ∷ [])
+    ∷ []
 
 -- "12. Page byte 0F over F0 gives 00; F0 over FF gives F0.": the first page of block 0, and that of block 1
 abbrev pub example12 : Example
 example12 =
-    record {
-      start = freshWith (blocks (0xf0 ∷ 0xff ∷ 0xff ∷ 0xff ∷ [])) (blocks (0x0f ∷ 0xf0 ∷ []));
-      lines =
-          act (program 0 0) shows (flash (paged 0x00 0xf0 ++ blocks (0xff ∷ 0xff ∷ 0xff ∷ [])) ∷ [])
-          ∷ act (program 1 0) shows (flash (paged 0x00 0xf0 ++ (paged 0xf0 0xff ++ blocks (0xff ∷ 0xff ∷ []))) ∷ [])
-          ∷ [];
-    }
+    lend (blocks (0xf0 ∷ 0xff ∷ 0xff ∷ 0xff ∷ [])) (blocks (0x0f ∷ 0xf0 ∷ [])) shows []
+    ∷ act (program 0 0) shows (flash (paged 0x00 0xf0 ++ blocks (0xff ∷ 0xff ∷ 0xff ∷ [])) ∷ [])
+    ∷ act (program 1 0) shows (flash (paged 0x00 0xf0 ++ (paged 0xf0 0xff ++ blocks (0xff ∷ 0xff ∷ []))) ∷ [])
+    ∷ []
 
 -- all twelve
 unfoldable pub examples : List Example
@@ -390,4 +344,4 @@ examples =
 
 -- "The twelve examples are proved from the definitions by a single statement over a single list": its proof is `all-hold`, in proofs/AllHold.antt
 abbrev pub AllHold : Type 0
-AllHold = every holds examples ≡ true
+AllHold = every (passes start) examples ≡ true

@@ -14,7 +14,7 @@ use borrow.Author.Tests.{eq-eqb, ne-eqb, eqb-true, eqb-false, leb-true}
 use Rattle.units.proofs.Cases.{decided, below-or, both}
 use Rattle.units.specs.Units.{toBytes}
 use Rattle.session.specs.Marks.{erasedMark, erases, programs, isMarked}
-use Rattle.session.specs.Soundness.{marksSound}
+use Rattle.soundness.specs.Soundness.{marksSound}
 use Rattle.flush.specs.Actions.{Action, erase, program, pagesFrom, blockActions, actionsFrom, flushActions, performAll}
 use Rattle.flush.specs.Cut.{blockOf, own, none, passed, underWork, ahead, progress, blockAt, leaves}
 use Rattle.buffers.proofs.Replace.{range-length, range-at}

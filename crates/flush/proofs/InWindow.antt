@@ -12,10 +12,10 @@ use Rattle.units.specs.Units.{toBytes}
 use Rattle.session.specs.declared.Session.{Session}
 use Rattle.flush.specs.Actions.{Action, performAll}
 use Rattle.session.specs.Machine.{Machine}
-use Rattle.session.specs.Soundness.{sound}
+use Rattle.soundness.specs.Soundness.{sound}
 use Rattle.flush.specs.declared.window.Step.{Step}
 use Rattle.flush.specs.declared.window.Step.the-variants.{Unsound, Suspended, Acted, Finished}
-use Rattle.flush.specs.Window.{windowActions, windowPart, performIn, performStep, stepped, advanced, flushWhole}
+use Rattle.flush.specs.Window.{windowActions, windowPart, performIn, hasNext, performNext, stepped, advanced, flushWhole}
 
 module _ (s : Session) (memory flash ys : List ℕ) (a n : ℕ) (start : a ≡ toBytes (s .first)) (size : n ≡ toBytes (s .size)) (fits : a + n ≤ length flash)
     (kept : length ys ≡ length (midOf a (a + n - a) flash)) where
@@ -47,11 +47,11 @@ module _ (m : Machine) (done : ℕ) where
     unfolding advanced
     suspended u = rw (t, u)
 
-    pub acted : m .session .suspended ≡ false → performStep m done .acted ≡ true → Answers Acted (performStep m done .flash)
+    pub acted : m .session .suspended ≡ false → hasNext (m .session) done ≡ true → Answers Acted (performNext m done)
     unfolding advanced
     acted u v = rw (t, u, v)
 
-    pub finished : m .session .suspended ≡ false → performStep m done .acted ≡ false → Answers Finished (performStep m done .flash)
+    pub finished : m .session .suspended ≡ false → hasNext (m .session) done ≡ false → Answers Finished (performNext m done)
     unfolding advanced
     finished u v = rw (t, u, v)
 

@@ -12,7 +12,7 @@ use lib.ListN.{length, getD, take, drop, length-append, length-drop}
 use lib.Seq.{take-suc, take-append-le, drop-append-le, drop-append-add, split-at, length-take-le}
 use borrow.Author.Tests.{ne-eqb, eqb-true, leb-true}
 use Rattle.units.proofs.Cases.{decided, chosen, both}
-use Rattle.session.specs.Soundness.{marksSound}
+use Rattle.soundness.specs.Soundness.{marksSound}
 use Rattle.session.specs.Marks.{erases, programs, isMarked, marksOf}
 use Rattle.flush.specs.Actions.{Action, erase, program, pagesFrom, blockActions, actionsFrom, flushActions, perform, performAll}
 use Rattle.chip.specs.Actions.{eraseBlock, programPage}

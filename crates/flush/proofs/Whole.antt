@@ -12,7 +12,7 @@ use Rattle.buffers.specs.Ranges.{range, replace}
 use Rattle.buffers.proofs.Replace.{range-length, range-replace, replace-same, replace-again, replace-length, replace-before, replace-after}
 use Rattle.session.specs.declared.Session.{Session}
 use Rattle.session.specs.Marks.{programs}
-use Rattle.session.specs.Soundness.{marksSound}
+use Rattle.soundness.specs.Soundness.{marksSound}
 use Rattle.flush.specs.Actions.{Action, performAll}
 use Rattle.flush.specs.Window.{windowActions, windowPart, partEnd, performIn}
 use Rattle.flush.proofs.Lists.{perform-none, perform-append}

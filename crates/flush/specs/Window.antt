@@ -8,7 +8,7 @@ use Rattle.buffers.specs.Ranges.{range, replace}
 use Rattle.units.specs.Units.{toBytes}
 use Rattle.session.specs.declared.Session.{Session}
 use Rattle.session.specs.Machine.{Machine}
-use Rattle.session.specs.Soundness.{sound}
+use Rattle.soundness.specs.Soundness.{sound}
 use Rattle.flush.specs.declared.window.Step.{Step}
 use Rattle.flush.specs.declared.window.Step.the-variants.{Unsound, Suspended, Acted, Finished}
 use Rattle.flush.specs.Actions.{Action, flushActions, performAll}
@@ -28,18 +28,12 @@ partEnd s = toBytes (s .first) + toBytes (s .size)
 unfoldable pub performIn : Session → List ℕ → List Action → List ℕ → List ℕ
 performIn s memory actions flash = replace (toBytes (s .first)) (performAll memory actions (windowPart s flash)) flash
 
--- whether an action was done, and the flash then
-pub record Performed : Type 0 where
-  pub acted : Bool
-  pub flash : List ℕ
+-- there is an action after the first so many, and the flash after that action
+abbrev pub hasNext : Session → ℕ → Bool
+hasNext s done = ltb done (length (windowActions s))
 
--- the action after the first so many, if there is one
-abbrev pub performStep : Machine → ℕ → Performed
-performStep m done =
-    record {
-      acted = ltb done (length (windowActions (m .session)));
-      flash = performIn (m .session) (m .memory) (take 1 (drop done (windowActions (m .session)))) (m .flash);
-    }
+abbrev pub performNext : Machine → ℕ → List ℕ
+performNext m done = performIn (m .session) (m .memory) (take 1 (drop done (windowActions (m .session)))) (m .flash)
 
 -- "It answers 4 .., then 6 when suspended, and changes nothing; otherwise 1": the number of each answer
 abbrev pub stepCode : Step → ℕ
@@ -72,7 +66,7 @@ advanced m done =
     cond (sound (length (m .flash)) (length (m .memory)) (m .session))
     (cond (m .session .suspended)
     (record { code = 6; yes = false; flash = m .flash })
-    (record { code = 1; yes = performStep m done .acted; flash = performStep m done .flash }))
+    (record { code = 1; yes = hasNext (m .session) done; flash = performNext m done }))
     (record { code = 4; yes = false; flash = m .flash })
 
 -- the number of actions, and the flash after them

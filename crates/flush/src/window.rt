@@ -2,13 +2,13 @@
 use crate::marked::flush_marked;
 use crate::marked::step_marked;
 use session::Session;
-use session::is_sound;
+use soundness::is_sound;
 use units::Blocks;
 ghost use mathlib.Core.Path.{_≡_};
 ghost use Prim.Native.Nat.{_≤_};
 ghost use lib.ListN.{length};
 ghost use Rattle.session.specs.Machine.{lent};
-ghost use Rattle.flush.specs.Window.{windowActions, partEnd, performIn, performStep, stepped, advanced, flushWhole};
+ghost use Rattle.flush.specs.Window.{windowActions, partEnd, performIn, hasNext, performNext, stepped, advanced, flushWhole};
 
 // What advancing a flush by one action came to.
 pub enum Step {
@@ -64,7 +64,8 @@ fn flush_part(session: Session, flash: &mut [u8], memory: &[u8]) -> u32
 // One action of a window that lies in the flash.
 fn step_part(session: Session, flash: &mut [u8], memory: &[u8], done: u64) -> bool
     requires { ⌜ partEnd session ≤ length (now flash) ⌝ }
-    ensures { λ r. ⌜ record { acted = r; flash = now (flash .exit) } ≡ performStep (lent session (now (flash .entry)) (now (memory .entry))) done ⌝ }
+    ensures { λ r. ⌜ (r ≡ hasNext session done)
+        × (now (flash .exit) ≡ performNext (lent session (now (flash .entry)) (now (memory .entry))) done) ⌝ }
 {
     let start = Blocks(session.first as u32).bytes().0 as usize;
     let end = start + Blocks(session.size as u32).bytes().0 as usize;

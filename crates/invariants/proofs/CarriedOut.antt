@@ -17,9 +17,9 @@ use Rattle.buffers.proofs.Replace.{range-at}
 use Rattle.session.specs.declared.Session.{Session}
 use Rattle.session.specs.declared.Window.{Window}
 use Rattle.session.specs.declared.Window.the-variants.{Closed, Read, Write}
-use Rattle.session.specs.Soundness.{markable, marksSound, sound}
-use Rattle.session.proofs.SoundMarks.{marks-within}
-use Rattle.session.proofs.Facts.{sized, sizes, Fitting, fitting, part-within}
+use Rattle.soundness.specs.Soundness.{markable, marksSound, sound}
+use Rattle.soundness.proofs.SoundMarks.{marks-within}
+use Rattle.soundness.proofs.Facts.{sized, sizes, Fitting, fitting, part-within}
 use Rattle.session.specs.Machine.{lent}
 use Rattle.session.specs.Marks.{dirty, erasedMark}
 use Rattle.flush.specs.Actions.{Action}

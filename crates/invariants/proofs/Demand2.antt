@@ -13,7 +13,7 @@ use borrow.Author.Tests.{eqb-true, eqb-false}
 use Rattle.units.proofs.Cases.{decided}
 use Rattle.session.specs.declared.Session.{Session}
 use Rattle.session.specs.Machine.{Setup, lent}
-use Rattle.session.specs.Soundness.{sessionSound, sound, soundAt}
+use Rattle.soundness.specs.Soundness.{sessionSound, sound, soundAt}
 use Rattle.session.specs.Marks.{dirty}
 use Rattle.flush.specs.Window.{performIn, flushWhole}
 use Rattle.refusals.specs.declared.Reason.{Reason}

@@ -15,8 +15,8 @@ use Rattle.session.specs.declared.Window.{Window}
 use Rattle.session.specs.declared.Window.the-variants.{Closed, Read, Write}
 use Rattle.session.specs.Machine.{Setup, lent}
 use Rattle.session.specs.Record.{clean, setBits, clearBits, withVersion, withAccess, withMarks, dropWindow, fresh}
-use Rattle.session.specs.Soundness.{activeSound, windowSound, markable, marksSound, sessionSound, sound, soundAt}
-use Rattle.session.proofs.Facts.{refitted-at}
+use Rattle.soundness.specs.Soundness.{activeSound, windowSound, markable, marksSound, sessionSound, sound, soundAt}
+use Rattle.soundness.proofs.Facts.{refitted-at}
 use Rattle.session.specs.Suspension.{controlLost, windowReset, answer, suspended}
 use Rattle.session.specs.Marks.{dirty, erasedMark}
 use Rattle.refusals.specs.declared.Reason.{Reason}

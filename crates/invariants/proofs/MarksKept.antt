@@ -10,7 +10,7 @@ use lib.ListN.{take, drop, replicate, length-replicate}
 use lib.Seq.{drop-drop}
 use Rattle.units.proofs.Cases.{both}
 use Rattle.buffers.specs.Ranges.{replace}
-use Rattle.session.specs.Soundness.{marksSound}
+use Rattle.soundness.specs.Soundness.{marksSound}
 
 -- no mark at all
 pub clean-sound : (n k : ℕ) → marksSound n (replicate k 0) ≡ true

@@ -8,7 +8,7 @@ use lib.ListN.{length}
 use Rattle.session.specs.declared.Session.{Session}
 use Rattle.session.specs.Machine.{Setup, Machine}
 use Rattle.session.specs.Record.{fresh}
-use Rattle.session.specs.Soundness.{sound, soundAt, soundIn}
+use Rattle.soundness.specs.Soundness.{sound, soundAt, soundIn}
 use Rattle.session.specs.Suspension.{suspended, resumed, resumedChanged}
 use Rattle.refusals.specs.declared.Reason.the-variants.{Accepted}
 use Rattle.registers.specs.Registers.{commandOf}

@@ -13,10 +13,10 @@ use Rattle.session.specs.declared.Window.the-variants.{Write}
 use Rattle.session.specs.Machine.{Setup, Machine, lent}
 use Rattle.session.specs.Marks.{dirty}
 use Rattle.session.specs.Record.{fresh, clearBits, withVersion, withAccess}
-use Rattle.session.specs.Soundness.{sound, soundAt}
+use Rattle.soundness.specs.Soundness.{sound, soundAt}
 use Rattle.session.specs.declared.suspension.Suspension.{Suspension}
 use Rattle.session.specs.Suspension.{controlLost, resumed}
-use Rattle.session.proofs.Facts.{part-within}
+use Rattle.soundness.proofs.Facts.{part-within}
 use Rattle.flush.specs.Actions.{flushActions}
 use Rattle.flush.specs.Window.{windowActions, performIn}
 use Rattle.flush.proofs.Whole.{in-same, after-cut}

@@ -17,10 +17,10 @@ use Rattle.session.specs.declared.Window.the-variants.{Write}
 use Rattle.session.specs.Machine.{lent}
 use Rattle.session.specs.Marks.{isMarked}
 use Rattle.session.specs.Record.{setBits, clearBits, withAccess}
-use Rattle.session.specs.Soundness.{marksSound, markable, sound}
+use Rattle.soundness.specs.Soundness.{marksSound, markable, sound}
 use Rattle.session.specs.declared.suspension.Suspension.{Suspension}
 use Rattle.session.specs.Suspension.{controlLost, answer as saying, suspended, resumed}
-use Rattle.session.proofs.Facts.{sizes, fitting, refitted, part-within}
+use Rattle.soundness.proofs.Facts.{sizes, fitting, refitted, part-within}
 use Rattle.buffers.proofs.Replace.{range-at}
 use Rattle.flush.specs.Actions.{Action, flushActions, performAll}
 use Rattle.flush.specs.Cut.{passed, ahead, progress, blockAt, leaves}

@@ -12,7 +12,7 @@ use lib.Seq.{take-suc, append-snoc, set-split, set-at, length-take-le}
 use borrow.Author.Tests.{leb-true}
 use Rattle.units.proofs.Cases.{both}
 use Rattle.buffers.specs.Ranges.{replace}
-use Rattle.session.specs.Soundness.{marksSound}
+use Rattle.soundness.specs.Soundness.{marksSound}
 
 -- ---- what sound marks are: "every mark is 0 to 2", and past the window 0
 pub mark-most : (n b : ℕ) (ms : List ℕ) → marksSound n ms ≡ true → getD ms b 0 ≤ 2

@@ -21,8 +21,8 @@ use Rattle.session.specs.declared.Window.{Window}
 use Rattle.session.specs.declared.Window.the-variants.{Write}
 use Rattle.session.specs.Machine.{Setup, Machine, lent}
 use Rattle.session.specs.Record.{fresh, withVersion, withWindow}
-use Rattle.session.specs.Soundness.{activeSound, windowSound, markable, marksSound, sound, soundAt}
-use Rattle.session.proofs.Facts.{refitted-at, part-within}
+use Rattle.soundness.specs.Soundness.{activeSound, windowSound, markable, marksSound, sound, soundAt}
+use Rattle.soundness.proofs.Facts.{refitted-at, part-within}
 use Rattle.session.specs.Marks.{dirty, erasedMark}
 use Rattle.registers.specs.Registers.{sequenceOf, number}
 use Rattle.refusals.proofs.Accepting.{Measured, measured}

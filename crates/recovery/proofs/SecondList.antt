@@ -18,8 +18,8 @@ use Rattle.session.specs.declared.Window.the-variants.{Write}
 use Rattle.session.specs.Machine.{Setup, Machine, lent}
 use Rattle.session.specs.Marks.{dirty, erasedMark}
 use Rattle.session.specs.Record.{clean, fresh, withVersion, withMarks}
-use Rattle.session.specs.Soundness.{sound, sessionSound}
-use Rattle.session.proofs.Facts.{part-within}
+use Rattle.soundness.specs.Soundness.{sound, sessionSound}
+use Rattle.soundness.proofs.Facts.{part-within}
 use Rattle.flush.specs.Actions.{Action, flushActions, actionsFrom, blockActions}
 use Rattle.flush.specs.Window.{windowActions, performIn, flushWhole}
 use Rattle.flush.proofs.Whole.{in-none}

@@ -16,7 +16,7 @@ use Rattle.session.specs.declared.Previous.the-variants.{Number}
 use Rattle.session.specs.declared.Window.the-variants.{Write}
 use Rattle.session.specs.Machine.{Setup, Machine, lent}
 use Rattle.session.specs.Record.{fresh, withMarks, withWindow}
-use Rattle.session.specs.Soundness.{soundAt}
+use Rattle.soundness.specs.Soundness.{soundAt}
 use Rattle.session.specs.Marks.{dirty, erasedMark}
 use Rattle.refusals.specs.declared.BlockRange.{BlockRange}
 use Rattle.refusals.specs.declared.Reason.the-variants.{Accepted}

@@ -4,7 +4,7 @@ use mathlib.Core.Bool.{true}
 use mathlib.Core.List.{List}
 use Rattle.session.specs.declared.Window.the-variants.{Write}
 use Rattle.session.specs.Machine.{Setup, Machine}
-use Rattle.session.specs.Soundness.{soundIn}
+use Rattle.soundness.specs.Soundness.{soundIn}
 use Rattle.recovery.specs.Cut.{Event, cut, AtCut}
 use Rattle.recovery.specs.Second.{Way, Succeeds, SecondRun, StepsSucceed, secondEnd, secondFlash, unstopped, AddsNone, unstoppedFlash}
 

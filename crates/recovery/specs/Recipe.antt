@@ -12,7 +12,7 @@ use Rattle.session.specs.declared.Session.{Session}
 use Rattle.session.specs.declared.Window.the-variants.{Write}
 use Rattle.session.specs.Machine.{Setup, Machine}
 use Rattle.session.specs.Marks.{dirty, erasedMark}
-use Rattle.session.specs.Soundness.{soundIn}
+use Rattle.soundness.specs.Soundness.{soundIn}
 use Rattle.registers.specs.Registers.{bytesOf}
 use Rattle.recovery.specs.Cut.{Event, cut}
 use Rattle.recovery.specs.Second.{Call, send, write, Way, bySteps, byFlush, SecondRun}

@@ -12,8 +12,8 @@ use Rattle.units.proofs.Cases.{decided, both}
 use Rattle.units.specs.Units.{roundUp}
 use Rattle.session.specs.declared.Session.{Session}
 use Rattle.session.specs.Machine.{Setup}
-use Rattle.session.specs.Soundness.{sound, soundAt}
-use Rattle.session.proofs.Facts.{Sized, sized, sizes, Fitting, fitting}
+use Rattle.soundness.specs.Soundness.{sound, soundAt}
+use Rattle.soundness.proofs.Facts.{Sized, sized, sizes, Fitting, fitting}
 use Rattle.refusals.specs.declared.Reason.{Reason}
 use Rattle.refusals.specs.declared.Reason.the-variants.{Accepted, System, Repeated, Unknown, Suspended, Windowless, Argument}
 use Rattle.registers.specs.Registers.{commandOf, number}

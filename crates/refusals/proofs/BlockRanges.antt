@@ -8,8 +8,8 @@ use Rattle.units.specs.Units.{roundUp, toBlocks}
 use Rattle.units.proofs.Cases.{both}
 use Rattle.session.specs.declared.Session.{Session}
 use Rattle.session.specs.Machine.{Setup}
-use Rattle.session.specs.Soundness.{soundAt}
-use Rattle.session.proofs.Facts.{sized, sizes, counted}
+use Rattle.soundness.specs.Soundness.{soundAt}
+use Rattle.soundness.proofs.Facts.{sized, sizes, counted}
 use Rattle.refusals.specs.declared.BlockRange.{BlockRange}
 
 -- the blocks that a first block and a count name: at version 1 in the flash, at version 2 in the window

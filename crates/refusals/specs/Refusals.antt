@@ -11,7 +11,7 @@ use Rattle.session.specs.declared.Window.the-variants.{Closed, Read, Write}
 use Rattle.session.specs.declared.Previous.{Previous}
 use Rattle.session.specs.declared.Previous.the-variants.{Absent, Number}
 use Rattle.session.specs.Machine.{Setup, Machine}
-use Rattle.session.specs.Soundness.{soundAt}
+use Rattle.soundness.specs.Soundness.{soundAt}
 use Rattle.refusals.specs.declared.Reason.{Reason}
 use Rattle.refusals.specs.declared.Reason.the-variants.{Accepted, System, Repeated, Unknown, Suspended, Windowless, Argument}
 use Rattle.refusals.specs.declared.BlockRange.{BlockRange}

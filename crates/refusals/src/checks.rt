@@ -7,7 +7,7 @@ use session::Board;
 use session::Previous;
 use session::Session;
 use session::Window;
-use session::is_sound_at;
+use soundness::is_sound_at;
 use units::Bytes;
 ghost use mathlib.Core.Path.{_≡_};
 ghost use mathlib.Core.Bool.{not, cond, _&&_, _||_};

@@ -8,7 +8,7 @@ use Rattle.units.specs.Units.{toBytes}
 use Rattle.buffers.specs.Ranges.{replace}
 use Rattle.session.specs.declared.Session.{Session}
 use Rattle.session.specs.Suspension.{suspended, resumed, resumedChanged}
-use Rattle.session.specs.Machine.{Setup, Machine, lent}
+use Rattle.session.specs.Machine.{Setup, Machine, lent, holding}
 use Rattle.refusals.specs.Refusals.{isWrite}
 use Rattle.mailbox.specs.Commands.{Outcome}
 use Rattle.mailbox.specs.Mediator.{mediate}
@@ -40,31 +40,24 @@ pub record Effect : Type 0 where
 abbrev pub effected : Served → List ℕ → List ℕ → Effect
 effected r flash memory = record { good = r .good; registers = r .registers; machine = lent (r .session) flash memory }
 
--- a record that keeps the rules and leaves this session
-abbrev pub keeping : Session → List ℕ → Served
-keeping s registers = record { good = true; session = s; registers = registers }
+-- what a record leaves
+abbrev pub leaves : Bool → List ℕ → Machine → Effect
+leaves good registers m = record { good = good; registers = registers; machine = m }
 
--- a record that leaves both buffers alone
-abbrev pub apart : Served → Machine → Effect
-apart r m = effected r (m .flash) (m .memory)
-
--- a command's session, and "its 16 registers afterwards"
+-- a command: "its 16 registers afterwards"
 abbrev pub commanded : Outcome → Effect
-commanded o = record { good = true; registers = o .registers; machine = o .machine }
+commanded o = leaves true (o .registers) (o .machine)
 
 -- "is a command; .. is the host filling ..; 2 suspend; 3 resume; 4 resume with changed flash"; "A record that breaks these rules" does nothing
 abbrev pub effectOf : Kind → Setup → Item → Machine → Effect
 effectOf Command setup item m = commanded (mediate setup (item .registers) m)
 effectOf Fill setup item m =
-    record {
-      good = fillAllowed (m .session) (length (m .memory)) (item .offset) (item .count);
-      registers = item .registers;
-      machine = lent (m .session) (m .flash) (filled (m .session) (item .offset) (item .count) (item .value) (m .memory));
-    }
-effectOf Suspend setup item m = apart (keeping (suspended (m .session) .session) (item .registers)) m
-effectOf Resume setup item m = apart (keeping (resumed (m .session) .session) (item .registers)) m
-effectOf ResumeChanged setup item m = apart (keeping (resumedChanged (m .session) .session) (item .registers)) m
-effectOf Malformed setup item m = apart (record { good = false; session = m .session; registers = item .registers }) m
+    leaves (fillAllowed (m .session) (length (m .memory)) (item .offset) (item .count)) (item .registers)
+    (lent (m .session) (m .flash) (filled (m .session) (item .offset) (item .count) (item .value) (m .memory)))
+effectOf Suspend setup item m = leaves true (item .registers) (holding (suspended (m .session) .session) m)
+effectOf Resume setup item m = leaves true (item .registers) (holding (resumed (m .session) .session) m)
+effectOf ResumeChanged setup item m = leaves true (item .registers) (holding (resumedChanged (m .session) .session) m)
+effectOf Malformed setup item m = leaves false (item .registers) m
 
 abbrev pub effect : Setup → Item → Machine → Effect
 effect setup item m = effectOf (item .kind) setup item m

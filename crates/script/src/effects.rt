@@ -13,10 +13,11 @@ use session::resume_changed;
 use session::suspend;
 use units::Blocks;
 ghost use mathlib.Core.Path.{_≡_};
+ghost use mathlib.Core.Bool.{true};
 ghost use lib.ListN.{length};
 ghost use Rattle.session.specs.Machine.{setUp, lent};
 ghost use Rattle.refusals.specs.Refusals.{isWrite};
-ghost use Rattle.script.specs.Effects.{fillAllowed, filled, effected, keeping, effect};
+ghost use Rattle.script.specs.Effects.{fillAllowed, filled, effected, effect};
 
 // What a record leaves: whether it keeps the rules, the session, and the registers, which are the
 // answer where it is a command.
@@ -58,7 +59,7 @@ pub fn serve(
 }
 
 fn answered(answer: Answer) -> Served
-    ensures { λ r. ⌜ r ≡ keeping (answer .session) (answer .registers) ⌝ }
+    ensures { λ r. ⌜ r ≡ record { good = true; session = answer .session; registers = answer .registers } ⌝ }
 {
     let session = answer.session;
     let registers = answer.registers;
@@ -71,7 +72,7 @@ fn answered(answer: Answer) -> Served
 
 // Whether suspend or resume answered yes is not asked.
 fn moved(suspension: Suspension, registers: [u8; 16]) -> Served
-    ensures { λ r. ⌜ r ≡ keeping (suspension .session) registers ⌝ }
+    ensures { λ r. ⌜ r ≡ record { good = true; session = suspension .session; registers = registers } ⌝ }
 {
     let session = suspension.session;
     Served {

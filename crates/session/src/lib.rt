@@ -1,10 +1,9 @@
-// The session record: what a fresh one holds, its setters and its marks, when one is sound, and suspend and resume.
+// The session record: what a fresh one holds, its setters and its marks, and suspend and resume.
 //
 // Every record value can be made and gets an answer, also those that no command leaves. What the board sets up
 // stands here too, since it is looked at together with the session.
 mod marks;
 mod setters;
-mod soundness;
 mod suspension;
 
 pub use marks::CLEAN;
@@ -18,8 +17,6 @@ pub use setters::with_previous;
 pub use setters::with_version;
 pub use setters::with_window;
 pub use setters::without_window;
-pub use soundness::is_sound;
-pub use soundness::is_sound_at;
 pub use suspension::Suspension;
 pub use suspension::resume;
 pub use suspension::resume_changed;

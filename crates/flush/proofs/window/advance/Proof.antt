@@ -4,10 +4,10 @@ use borrow.Author.Needs.{needs}
 use lib.ListN.{length}
 use Rattle.session.specs.Machine.{lent}
 use Rattle.flush.specs.declared.window.Step.the-variants.{Acted, Finished}
-use Rattle.flush.specs.Window.{Performed, stepped}
+use Rattle.flush.specs.Window.{stepped}
 use Rattle.flush.proofs.InWindow.{unsound, suspended, acted, finished}
 use borrow.Author.Tests.{not-true, not-false}
-use Rattle.session.proofs.Facts.{part-within}
+use Rattle.soundness.proofs.Facts.{part-within}
 use Rattle.flush.proofs.window.advance.Statement.{statement}
 use Rattle.flush.proofs.window.advance.Tie as tie
 
@@ -39,8 +39,8 @@ returns-3 c =
     let a = c .before .before .before .before .before .before .before .before .before .before .args in
     let call = c .before .before .before .step-part in
     let w = acted (lent (a .session) (a .flash .now) (a .memory .now)) (a .done) (sym (c .before .before .before .before .before .before .before .is-sound .ensures) ∙ not-false (c .before .before .before .before .before .before .before .is-sound .result) (c .before .before .before .before .before .before .if1 .left))
-    (c .before .before .before .before .before .if2 .left) (sym (ap (λ (p : Performed). p .acted) (call .ensures)) ∙ c .if3 .taken) in
-    ap (λ (p : Performed). stepped Acted (p .flash)) (call .ensures) ∙ w
+    (c .before .before .before .before .before .if2 .left) (sym (call .ensures .0) ∙ c .if3 .taken) in
+    ap (stepped Acted) (call .ensures .1) ∙ w
 
 same-length-2 : tie.Need-same-length-2
 same-length-2 c = search needs
@@ -50,8 +50,8 @@ returns-4 c =
     let a = c .before .before .before .before .before .before .before .before .before .before .args in
     let call = c .before .before .before .step-part in
     let w = finished (lent (a .session) (a .flash .now) (a .memory .now)) (a .done) (sym (c .before .before .before .before .before .before .before .is-sound .ensures) ∙ not-false (c .before .before .before .before .before .before .before .is-sound .result) (c .before .before .before .before .before .before .if1 .left))
-    (c .before .before .before .before .before .if2 .left) (sym (ap (λ (p : Performed). p .acted) (call .ensures)) ∙ c .if3 .left) in
-    ap (λ (p : Performed). stepped Finished (p .flash)) (call .ensures) ∙ w
+    (c .before .before .before .before .before .if2 .left) (sym (call .ensures .0) ∙ c .if3 .left) in
+    ap (stepped Finished) (call .ensures .1) ∙ w
 
 pub advance-spec : {M : Type 1} → statement M
 advance-spec =

@@ -5,7 +5,7 @@ use lib.ListN.{length}
 use Rattle.session.specs.Machine.{lent}
 use Rattle.flush.proofs.InWindow.{flushed-none, flushed-all}
 use borrow.Author.Tests.{not-true, not-false}
-use Rattle.session.proofs.Facts.{part-within}
+use Rattle.soundness.proofs.Facts.{part-within}
 use Rattle.flush.proofs.window.flush_window.Statement.{statement}
 use Rattle.flush.proofs.window.flush_window.Tie as tie
 

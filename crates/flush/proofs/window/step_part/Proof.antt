@@ -45,7 +45,7 @@ returns c =
     let call = c .before .before .step-marked in
     let flash = performed (a .session) (a .memory .now) (a .flash .now) (call .last .0) (start .result .0) (size .result .0) (start .ensures) (size .ensures) (omega arith) (call .kept .0)
     (take 1 (drop (a .done) (windowActions (a .session)))) (call .ensures .1) in
-    λ i. record { acted = call .ensures .0 i; flash = flash i }
+    (call .ensures .0, flash)
 
 pub step-part-spec : {M : Type 1} → statement M
 step-part-spec =

@@ -5,7 +5,7 @@ use Prim.Native.Nat.{ℕ}
 use borrow.Author.Tests.{not-true, not-false}
 use borrow.Author.Needs.{needs}
 use Rattle.session.specs.Machine.{setUp}
-use Rattle.session.specs.Soundness.{soundAt}
+use Rattle.soundness.specs.Soundness.{soundAt}
 use Rattle.refusals.specs.Refusals.{argumentBroken, reasonFor}
 use Rattle.refusals.proofs.BlockRanges.{flash-counted}
 use Rattle.refusals.proofs.checks.reason_for.Statement.{statement}

@@ -1,8 +1,8 @@
 -- `script::effects::serve` meets its contract: each kind of record by itself.
 use mathlib.Core.Path.{sym, ap, _∙_}
-use Rattle.session.specs.declared.suspension.Suspension.{Suspension}
+use mathlib.Core.Bool.{true}
 use Rattle.script.specs.declared.Kind.{Kind}
-use Rattle.script.specs.Effects.{effected, keeping, commanded, effectOf}
+use Rattle.script.specs.Effects.{effected, leaves, commanded, effectOf}
 use Rattle.script.specs.declared.effects.Served.{Served}
 use Rattle.session.specs.Machine.{setUp, lent}
 use borrow.Author.Needs.{needs}
@@ -81,19 +81,19 @@ returns-3 : tie.Need-returns-3
 returns-3 c =
     let a = c .before .before .before .before .before .before .before .args in
     let e = sym (ap (λ (k : Kind). effectOf k (setUp (a .board)) (a .item) (lent (a .session) (a .flash .now) (a .memory .now))) (c .before .before .enum-told3 .given .1)) in
-    ap (λ (r : Served). effected r (a .flash .now) (a .memory .now)) (c .moved .ensures ∙ ap (λ (t : Suspension). keeping (t .session) (a .item .registers)) (c .before .suspend .ensures)) ∙ e
+    ap (λ (r : Served). effected r (a .flash .now) (a .memory .now)) (c .moved .ensures) ∙ (λ i. leaves true (a .item .registers) (lent (c .before .suspend .ensures i .session) (a .flash .now) (a .memory .now))) ∙ e
 
 returns-4 : tie.Need-returns-4
 returns-4 c =
     let a = c .before .before .before .before .before .before .before .args in
     let e = sym (ap (λ (k : Kind). effectOf k (setUp (a .board)) (a .item) (lent (a .session) (a .flash .now) (a .memory .now))) (c .before .before .enum-told4 .given .1)) in
-    ap (λ (r : Served). effected r (a .flash .now) (a .memory .now)) (c .moved2 .ensures ∙ ap (λ (t : Suspension). keeping (t .session) (a .item .registers)) (c .before .resume .ensures)) ∙ e
+    ap (λ (r : Served). effected r (a .flash .now) (a .memory .now)) (c .moved2 .ensures) ∙ (λ i. leaves true (a .item .registers) (lent (c .before .resume .ensures i .session) (a .flash .now) (a .memory .now))) ∙ e
 
 returns-5 : tie.Need-returns-5
 returns-5 c =
     let a = c .before .before .before .before .before .before .before .args in
     let e = sym (ap (λ (k : Kind). effectOf k (setUp (a .board)) (a .item) (lent (a .session) (a .flash .now) (a .memory .now))) (c .before .before .enum-told5 .given .1)) in
-    ap (λ (r : Served). effected r (a .flash .now) (a .memory .now)) (c .moved3 .ensures ∙ ap (λ (t : Suspension). keeping (t .session) (a .item .registers)) (c .before .resume-changed .ensures)) ∙ e
+    ap (λ (r : Served). effected r (a .flash .now) (a .memory .now)) (c .moved3 .ensures) ∙ (λ i. leaves true (a .item .registers) (lent (c .before .resume-changed .ensures i .session) (a .flash .now) (a .memory .now))) ∙ e
 
 returns-6 : tie.Need-returns-6
 returns-6 c =

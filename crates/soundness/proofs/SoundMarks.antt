@@ -11,9 +11,9 @@ use lib.ListN.{length, getD, drop, drop-of-length-le}
 use lib.Seq.{drop-cons}
 use borrow.Author.Tests.{le-leb, lt-leb, leb-true}
 use Rattle.units.proofs.Cases.{below-or, both}
 use Rattle.session.specs.declared.Window.{Window}
 use Rattle.session.specs.declared.Window.the-variants.{Closed, Read, Write}
-use Rattle.session.specs.Soundness.{markable, marksSound}
+use Rattle.soundness.specs.Soundness.{markable, marksSound}
 
 module _ (n i : ℕ) (ms : List ℕ) (h : i < length ms) where
   marks-in : i < n → marksSound (n - i) (drop i ms) ≡ (leb (getD ms i 0) 2 && marksSound (n - (i + 1)) (drop (i + 1) ms))

@@ -1,12 +1,12 @@
--- `session::soundness::session_is_sound` meets its contract.
+-- `soundness::session_is_sound` meets its contract.
 use mathlib.Core.Path.{sym, ap, _∙_}
 use native.Mathlib.Omega.{arith}
 use borrow.Author.Tests.{le-leb, lt-leb, not-true, not-false}
 use borrow.Author.Needs.{needs}
 use Prim.Native.Nat.{ℕ}
-use Rattle.session.specs.Soundness.{marksSound, sessionSound}
-use Rattle.session.proofs.soundness.session_is_sound.Statement.{statement}
-use Rattle.session.proofs.soundness.session_is_sound.Tie as tie
+use Rattle.soundness.specs.Soundness.{marksSound, sessionSound}
+use Rattle.soundness.proofs.session_is_sound.Statement.{statement}
+use Rattle.soundness.proofs.session_is_sound.Tie as tie
 
 returns : tie.Need-returns
 unfolding sessionSound

@@ -1,15 +1,15 @@
--- `session::soundness::is_sound_at` meets its contract.
+-- `soundness::is_sound_at` meets its contract.
 use mathlib.Core.Path.{_≡_, sym, ap, _∙_}
 use mathlib.Core.Bool.{true}
 use Prim.Native.Nat.{ℕ, _+_}
 use native.Mathlib.Omega.{arith}
 use lib.Dec.{leb}
 use borrow.Author.Tests.{not-true, not-false}
-use Rattle.session.specs.Soundness.{sound, soundAt}
-use Rattle.session.proofs.Facts.{sized, sizes, counted}
+use Rattle.soundness.specs.Soundness.{sound, soundAt}
+use Rattle.soundness.proofs.Facts.{sized, sizes, counted}
 use borrow.Author.Needs.{needs}
-use Rattle.session.proofs.soundness.is_sound_at.Statement.{statement}
-use Rattle.session.proofs.soundness.is_sound_at.Tie as tie
+use Rattle.soundness.proofs.is_sound_at.Statement.{statement}
+use Rattle.soundness.proofs.is_sound_at.Tie as tie
 
 is-sound-requires : tie.Need-is-sound-requires
 is-sound-requires c κs = search needs

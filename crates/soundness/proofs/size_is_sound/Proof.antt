@@ -1,12 +1,12 @@
--- `session::soundness::size_is_sound` meets its contract.
+-- `soundness::size_is_sound` meets its contract.
 use Rattle.units.specs.Units.{toBytes, roundUp}
-use Rattle.session.specs.Soundness.{sizeSound}
+use Rattle.soundness.specs.Soundness.{sizeSound}
 use mathlib.Core.Path.{_≡_}
 use native.Mathlib.Omega.{arith}
 use borrow.Author.Tests.{le-leb, lt-leb}
 use borrow.Author.Needs.{needs}
-use Rattle.session.proofs.soundness.size_is_sound.Statement.{statement}
-use Rattle.session.proofs.soundness.size_is_sound.Tie as tie
+use Rattle.soundness.proofs.size_is_sound.Statement.{statement}
+use Rattle.soundness.proofs.size_is_sound.Tie as tie
 
 blocks-requires : tie.Need-blocks-requires
 blocks-requires c κs = search needs

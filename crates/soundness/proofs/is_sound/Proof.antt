@@ -1,4 +1,4 @@
--- `session::soundness::is_sound` meets its contract.
+-- `soundness::is_sound` meets its contract.
 use mathlib.Core.Path.{_≡_, sym, ap, _∙_}
 use native.Mathlib.Omega.{arith}
 use borrow.Author.Tests.{not-true, not-false}
@@ -6,10 +6,10 @@ use borrow.Author.Needs.{needs}
 use mathlib.Core.Bool.{true}
 use Prim.Native.Nat.{ℕ}
 use Rattle.units.specs.Units.{roundUp}
-use Rattle.session.specs.Soundness.{sound, sizesSound, sizeSound, sessionSound}
-use Rattle.session.proofs.Facts.{sized, counted}
-use Rattle.session.proofs.soundness.is_sound.Statement.{statement}
-use Rattle.session.proofs.soundness.is_sound.Tie as tie
+use Rattle.soundness.specs.Soundness.{sound, sizesSound, sizeSound, sessionSound}
+use Rattle.soundness.proofs.Facts.{sized, counted}
+use Rattle.soundness.proofs.is_sound.Statement.{statement}
+use Rattle.soundness.proofs.is_sound.Tie as tie
 
 size-is-sound-requires : tie.Need-size-is-sound-requires
 size-is-sound-requires c κs = search needs

@@ -7,11 +7,11 @@ use native.Mathlib.Omega.{arith}
 use borrow.Author.Tests.{leb-true, eqb-true, le-leb}
 use Rattle.units.proofs.Cases.{both}
 use Rattle.units.specs.Units.{toBytes, roundUp, toBlocks}
 use Rattle.session.specs.declared.Session.{Session}
 use Rattle.session.specs.declared.Window.{Window}
 use Rattle.session.specs.declared.Window.the-variants.{Closed, Read, Write}
 use Rattle.session.specs.Machine.{Setup}
-use Rattle.session.specs.Soundness.{sizeSound, sizesSound, activeSound, windowSound, markable, marksSound, sessionSound, sound, soundAt}
+use Rattle.soundness.specs.Soundness.{sizeSound, sizesSound, activeSound, windowSound, markable, marksSound, sessionSound, sound, soundAt}
 
 -- a buffer of whole blocks
 pub record Sized (most length : ℕ) : Type 0 where

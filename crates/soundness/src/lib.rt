@@ -1,14 +1,16 @@
 // When the lent sizes and a session are sound.
-use crate::Board;
-use crate::Session;
-use crate::Window;
+//
+// Every length and every session record gets an answer; what is not sound is SYSTEM_ERROR to a command and 4 to a step.
+use session::Board;
+use session::Session;
+use session::Window;
 use units::Bytes;
 ghost use mathlib.Core.Path.{_≡_};
 ghost use Prim.Native.Nat.{_<_};
 ghost use mathlib.Core.Bool.{cond};
 ghost use lib.Dec.{leb};
 ghost use Rattle.session.specs.Machine.{setUp};
-ghost use Rattle.session.specs.Soundness.{sound, soundAt, sizeSound, activeSound, windowSound, markable, marksSound, sessionSound};
+ghost use Rattle.soundness.specs.Soundness.{sound, soundAt, sizeSound, activeSound, windowSound, markable, marksSound, sessionSound};
 
 // The most blocks of a flash and of a window memory, and how far the LPC blocks go.
 const MOST_FLASH: u32 = 65535;

@@ -1,15 +1,15 @@
--- `session::soundness::marks_are_sound` meets its contract: the marks from place i on are still to be tested.
+-- `soundness::marks_are_sound` meets its contract: the marks from place i on are still to be tested.
 use mathlib.Core.Path.{_≡_, refl, sym, ap, _∙_}
 use mathlib.Core.Bool.{Bool, true, _&&_, and-false, and-true}
 use mathlib.Core.Logic.{inl, inr, ⊎-elim}
-use Rattle.session.proofs.SoundMarks.{mark-over, mark-within, marks-end, marks-narrow}
+use Rattle.soundness.proofs.SoundMarks.{mark-over, mark-within, marks-end, marks-narrow}
 use Prim.Native.Nat.{ℕ, _≤_, _+_, _-_}
 use native.Mathlib.Omega.{arith}
 use borrow.Author.Needs.{needs}
 use lib.ListN.{length, drop}
-use Rattle.session.specs.Soundness.{marksSound}
-use Rattle.session.proofs.soundness.marks_are_sound.Statement.{statement}
-use Rattle.session.proofs.soundness.marks_are_sound.Tie as tie
+use Rattle.soundness.specs.Soundness.{marksSound}
+use Rattle.soundness.proofs.marks_are_sound.Statement.{statement}
+use Rattle.soundness.proofs.marks_are_sound.Tie as tie
 
 abbrev Inv-loop : tie.InvT-loop
 Inv-loop markable marks limit all₀ n₀ i₀ all n i =

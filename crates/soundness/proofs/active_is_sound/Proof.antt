@@ -1,9 +1,9 @@
--- `session::soundness::active_is_sound` meets its contract.
+-- `soundness::active_is_sound` meets its contract.
 use native.Mathlib.Omega.{arith}
 use borrow.Author.Tests.{le-leb, lt-leb}
 use borrow.Author.Needs.{needs}
-use Rattle.session.proofs.soundness.active_is_sound.Statement.{statement}
-use Rattle.session.proofs.soundness.active_is_sound.Tie as tie
+use Rattle.soundness.proofs.active_is_sound.Statement.{statement}
+use Rattle.soundness.proofs.active_is_sound.Tie as tie
 
 returns : tie.Need-returns
 returns c = let a = c .before .args in rw (lt-leb 1 (a .size) (omega arith))

@@ -1,8 +1,8 @@
--- `session::soundness::window_is_sound` meets its contract.
+-- `soundness::window_is_sound` meets its contract.
 use borrow.Author.Tests.{eq-eqb, ne-eqb}
 use borrow.Author.Needs.{needs}
-use Rattle.session.proofs.soundness.window_is_sound.Statement.{statement}
-use Rattle.session.proofs.soundness.window_is_sound.Tie as tie
+use Rattle.soundness.proofs.window_is_sound.Statement.{statement}
+use Rattle.soundness.proofs.window_is_sound.Tie as tie
 
 enum-told : tie.Need-enum-told
 enum-told c = search needs
