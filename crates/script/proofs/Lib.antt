@@ -1,3 +1,2 @@
 mod Filling
-mod Numbers
 pub mod Progress

@@ -12,10 +12,10 @@ use Rattle.leb128.specs.Groups.{Decoded, found, cutShort, notShortest, before, 
 use Rattle.leb128.specs.declared.Read.{Read}
 use Rattle.leb128.specs.declared.Read.the-variants.{Number, Short, Malformed}
 use Rattle.session.specs.Machine.{Setup, Machine}
-use Rattle.script.specs.declared.Item.{Item}
-use Rattle.script.specs.declared.Kind.{Kind}
-use Rattle.script.specs.declared.Kind.the-variants.{Malformed as Bad}
-use Rattle.script.specs.Records.{bad, withNumber, upTo, valuesAt, commandAt, fillAt, ofKind, recordAt}
+use Rattle.records.specs.declared.Item.{Item}
+use Rattle.records.specs.declared.Kind.{Kind}
+use Rattle.records.specs.declared.Kind.the-variants.{Malformed as Bad}
+use Rattle.records.specs.Records.{bad, withNumber, upTo, valuesAt, commandAt, fillAt, ofKind, recordAt}
 use Rattle.script.specs.Effects.{effectOf, effect}
 
 -- ---- numbers

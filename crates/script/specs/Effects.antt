@@ -12,10 +12,10 @@ use Rattle.session.specs.Machine.{Setup, Machine, lent, holding}
 use Rattle.refusals.specs.Refusals.{isWrite}
 use Rattle.mailbox.specs.Commands.{Outcome}
 use Rattle.mailbox.specs.Mediator.{mediate}
-use Rattle.script.specs.declared.Item.{Item}
-use Rattle.script.specs.declared.Kind.{Kind}
-use Rattle.script.specs.declared.Kind.the-variants.{Command, Fill, Suspend, Resume, ResumeChanged, Malformed}
-use Rattle.script.specs.declared.effects.Served.{Served}
+use Rattle.records.specs.declared.Item.{Item}
+use Rattle.records.specs.declared.Kind.{Kind}
+use Rattle.records.specs.declared.Kind.the-variants.{Command, Fill, Suspend, Resume, ResumeChanged, Malformed}
+use Rattle.script.specs.declared.Served.{Served}
 
 -- ---- the host's fill
 

@@ -1,154 +1,118 @@
-// The records of the bench program: one read, and carried out.
+// The records of the bench program carried out: what one does to the session, the flash and the window memory.
 //
-// Every row of bytes, every offset in it, every session and every buffer length gets an answer.
-mod effects;
-
-pub use effects::Served;
-pub use effects::fill_window;
-pub use effects::serve;
-use leb128::Read;
-use leb128::read_at;
+// Every record, every session and every buffer length gets an answer.
+use buffers::fill;
+use mailbox::Answer;
+use mailbox::command;
+use records::Item;
+use records::Kind;
+use session::Board;
+use session::Session;
+use session::Suspension;
+use session::Window;
+use session::resume;
+use session::resume_changed;
+use session::suspend;
+use units::Blocks;
 ghost use mathlib.Core.Path.{_≡_};
-ghost use Prim.Native.Nat.{_≤_};
-ghost use lib.ListN.{replicate};
-ghost use Rattle.script.specs.Records.{plain, bad, valuesAt, commandAt, fillAt, recordAt};
+ghost use mathlib.Core.Bool.{true};
+ghost use lib.ListN.{length};
+ghost use Rattle.session.specs.Machine.{setUp, lent};
+ghost use Rattle.refusals.specs.Refusals.{isWrite};
+ghost use Rattle.script.specs.Effects.{fillAllowed, filled, effected, effect};
 
-// What a record is.
-pub enum Kind {
-    Command,
-    Fill,
-    Suspend,
-    Resume,
-    ResumeChanged,
-    // It breaks a rule.
-    Malformed,
-}
-
-// A record: its kind, the registers of a command, the numbers of a fill, and the offset past it.
-pub struct Item {
-    pub kind: Kind,
+// What a record leaves: whether it keeps the rules, the session, and the registers, which are the
+// answer where it is a command.
+pub struct Served {
+    pub good: bool,
+    pub session: Session,
     pub registers: [u8; 16],
-    pub offset: u32,
-    pub count: u32,
-    pub value: u8,
-    pub next: usize,
 }
 
-// The record whose first byte stands at offset at.
-pub fn read_record(bytes: &[u8], at: usize) -> Item
-    ensures { λ r. ⌜ r ≡ recordAt (now (bytes .entry)) at ⌝ }
+// Carries out a record. One that breaks a rule changes nothing.
+pub fn serve(
+    item: Item,
+    session: Session,
+    board: Board,
+    flash: &mut [u8],
+    memory: &mut [u8],
+) -> Served
+    ensures { λ r. ⌜ effected r (now (flash .exit)) (now (memory .exit))
+        ≡ effect (setUp board) item (lent session (now (flash .entry)) (now (memory .entry))) ⌝ }
 {
-    let kind = read_at(bytes, at);
-    let Read::Number { value, next } = kind else {
-        return bad_record();
-    };
-    match value {
-        0 => command_at(bytes, next),
-        1 => fill_at(bytes, next),
-        2 => plain_record(Kind::Suspend, next),
-        3 => plain_record(Kind::Resume, next),
-        4 => plain_record(Kind::ResumeChanged, next),
-        _ => bad_record(),
+    let kind = item.kind;
+    let registers = item.registers;
+    match kind {
+        Kind::Command => answered(command(session, registers, board, flash, memory)),
+        Kind::Fill => Served {
+            good: fill_window(session, memory, item.offset, item.count, item.value),
+            session,
+            registers,
+        },
+        Kind::Suspend => moved(suspend(session), registers),
+        Kind::Resume => moved(resume(session), registers),
+        Kind::ResumeChanged => moved(resume_changed(session), registers),
+        Kind::Malformed => Served {
+            good: false,
+            session,
+            registers,
+        },
     }
 }
 
-// A record without numbers.
-fn plain_record(kind: Kind, next: usize) -> Item
-    ensures { λ r. ⌜ r ≡ plain kind next ⌝ }
+fn answered(answer: Answer) -> Served
+    ensures { λ r. ⌜ r ≡ record { good = true; session = answer .session; registers = answer .registers } ⌝ }
 {
-    Item {
-        kind,
-        registers: [0; 16],
-        offset: 0,
-        count: 0,
-        value: 0,
-        next,
-    }
-}
-
-fn bad_record() -> Item
-    ensures { λ r. ⌜ r ≡ bad ⌝ }
-{
-    plain_record(Kind::Malformed, 0)
-}
-
-// The rest of a command: the count of its values, and they.
-fn command_at(bytes: &[u8], at: usize) -> Item
-    ensures { λ r. ⌜ r ≡ commandAt (now (bytes .entry)) at ⌝ }
-{
-    let count = read_at(bytes, at);
-    let Read::Number { value, next } = count else {
-        return bad_record();
-    };
-    if 13 < value {
-        return bad_record();
-    }
-    values_at(bytes, value as usize, next)
-}
-
-// So many values, for registers 0 onward.
-fn values_at(bytes: &[u8], count: usize, start: usize) -> Item
-    requires { ⌜ count ≤ 13 ⌝ }
-    ensures { λ r. ⌜ r ≡ valuesAt (now (bytes .entry)) count 0 (replicate 16 0) start ⌝ }
-{
-    let mut registers = [0u8; 16];
-    let mut at = start;
-    let mut i = 0;
-    while i < count {
-        let register = read_at(bytes, at);
-        let Read::Number { value, next } = register else {
-            return bad_record();
-        };
-        if 255 < value {
-            return bad_record();
-        }
-        registers[i] = value as u8;
-        at = next;
-        i += 1;
-    }
-    Item {
-        kind: Kind::Command,
+    let session = answer.session;
+    let registers = answer.registers;
+    Served {
+        good: true,
+        session,
         registers,
-        offset: 0,
-        count: 0,
-        value: 0,
-        next: at,
     }
 }
 
-// The rest of a fill: offset, count and value.
-fn fill_at(bytes: &[u8], at: usize) -> Item
-    ensures { λ r. ⌜ r ≡ fillAt (now (bytes .entry)) at ⌝ }
+// Whether suspend or resume answered yes is not asked.
+fn moved(suspension: Suspension, registers: [u8; 16]) -> Served
+    ensures { λ r. ⌜ r ≡ record { good = true; session = suspension .session; registers = registers } ⌝ }
 {
-    let first = read_at(bytes, at);
-    let Read::Number {
-        value: offset,
-        next: then,
-    } = first
-    else {
-        return bad_record();
-    };
-    let second = read_at(bytes, then);
-    let Read::Number {
-        value: count,
-        next: last,
-    } = second
-    else {
-        return bad_record();
-    };
-    let third = read_at(bytes, last);
-    let Read::Number { value, next } = third else {
-        return bad_record();
-    };
-    if 255 < value {
-        return bad_record();
+    let session = suspension.session;
+    Served {
+        good: true,
+        session,
+        registers,
     }
-    Item {
-        kind: Kind::Fill,
-        registers: [0; 16],
-        offset,
-        count,
-        value: value as u8,
-        next,
+}
+
+// The host fills a range of the active write window; the answer says whether it may. A refused fill
+// changes nothing.
+pub fn fill_window(session: Session, memory: &mut [u8], offset: u32, count: u32, value: u8) -> bool
+    ensures { λ r. ⌜ (r ≡ fillAllowed session (length (now (memory .entry))) offset count)
+        × (now (memory .exit) ≡ filled session offset count value (now (memory .entry))) ⌝ }
+{
+    let window = session.window;
+    if !is_write(window) {
+        return false;
+    }
+    let end = (offset as u64) + (count as u64);
+    if Blocks(session.size as u32).bytes().0 < end {
+        return false;
+    }
+    if (memory.len() as u64) < end {
+        return false;
+    }
+    let first = offset as usize;
+    let last = end as usize;
+    fill(&mut memory[first..last], value);
+    true
+}
+
+fn is_write(window: Window) -> bool
+    ensures { λ r. ⌜ r ≡ isWrite window ⌝ }
+{
+    match window {
+        Window::Closed => false,
+        Window::Read => false,
+        Window::Write => true,
     }
 }

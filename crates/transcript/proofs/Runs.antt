@@ -10,8 +10,8 @@ use lib.ListN.{length}
 use borrow.Author.Tests.{lt-ltb, le-ltb, ltb-true, ltb-false}
 use Rattle.units.proofs.Cases.{decided}
 use Rattle.session.specs.Machine.{Setup, Machine}
-use Rattle.script.specs.declared.Item.{Item}
-use Rattle.script.specs.Records.{recordAt}
+use Rattle.records.specs.declared.Item.{Item}
+use Rattle.records.specs.Records.{recordAt}
 use Rattle.script.specs.Effects.{Effect, effect}
 use Rattle.script.proofs.Progress.{moves-on}
 use Rattle.transcript.specs.Printing.{answerText, badLine}

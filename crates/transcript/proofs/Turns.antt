@@ -7,9 +7,9 @@ use lib.ListN.{length}
 use Rattle.session.specs.declared.Session.{Session}
 use Rattle.session.specs.Machine.{Machine, lent}
 use Rattle.session.specs.Record.{fresh}
-use Rattle.script.specs.declared.Item.{Item}
-use Rattle.script.specs.declared.effects.Served.{Served}
-use Rattle.script.specs.Records.{recordAt}
+use Rattle.records.specs.declared.Item.{Item}
+use Rattle.script.specs.declared.Served.{Served}
+use Rattle.records.specs.Records.{recordAt}
 use Rattle.script.specs.Effects.{Effect, effected, effect}
 use Rattle.transcript.specs.Printing.{written, answerText, badLine}
 use Rattle.transcript.specs.Run.{Ran, ended, after, bench, runFrom}

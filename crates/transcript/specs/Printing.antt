@@ -6,8 +6,8 @@ use lib.Dec.{ltb}
 use lib.ListN.{set}
 use Rattle.buffers.specs.Ranges.{range}
 use Rattle.units.specs.Units.{blockBytes, toBytes}
-use Rattle.script.specs.declared.Kind.{Kind}
-use Rattle.script.specs.declared.Kind.the-variants.{Command, Fill, Suspend, Resume, ResumeChanged, Malformed}
+use Rattle.records.specs.declared.Kind.{Kind}
+use Rattle.records.specs.declared.Kind.the-variants.{Command, Fill, Suspend, Resume, ResumeChanged, Malformed}
 use Rattle.transcript.specs.Text.{registerLine, otherThanFF}
 
 -- bytes written into a text from a place on, each where there is room

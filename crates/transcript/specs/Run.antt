@@ -7,8 +7,8 @@ use lib.ListN.{length, replicate}
 use Rattle.units.specs.Units.{toBytes}
 use Rattle.session.specs.Machine.{Setup, setUp, Machine, lent}
 use Rattle.session.specs.Record.{fresh}
-use Rattle.script.specs.declared.Kind.{Kind}
-use Rattle.script.specs.Records.{recordAt}
+use Rattle.records.specs.declared.Kind.{Kind}
+use Rattle.records.specs.Records.{recordAt}
 use Rattle.script.specs.Effects.{Effect, effect}
 use Rattle.transcript.specs.Printing.{answerText, badLine, tooLong, flashLine}
 

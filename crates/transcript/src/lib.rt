@@ -8,7 +8,7 @@ use printing::put;
 use printing::put_answer;
 use printing::put_bad;
 use printing::put_flash;
-use script::read_record;
+use records::read_record;
 use script::serve;
 use session::Board;
 use session::new_session;

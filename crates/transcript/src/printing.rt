@@ -1,7 +1,7 @@
 // Bytes, numbers and lines put into a text.
 use crate::text::count_written;
 use crate::text::register_line;
-use script::Kind;
+use records::Kind;
 use units::BLOCK;
 use units::Blocks;
 ghost use mathlib.Core.Path.{_≡_};

@@ -7,9 +7,9 @@ use lib.ListN.{set, replicate}
 use Rattle.leb128.specs.Groups.{readAt}
 use Rattle.leb128.specs.declared.Read.{Read}
 use Rattle.leb128.specs.declared.Read.the-variants.{Number, Short, Malformed}
-use Rattle.script.specs.declared.Item.{Item}
-use Rattle.script.specs.declared.Kind.{Kind}
-use Rattle.script.specs.declared.Kind.the-variants.{Command, Fill, Suspend, Resume, ResumeChanged, Malformed as Bad}
+use Rattle.records.specs.declared.Item.{Item}
+use Rattle.records.specs.declared.Kind.{Kind}
+use Rattle.records.specs.declared.Kind.the-variants.{Command, Fill, Suspend, Resume, ResumeChanged, Malformed as Bad}
 
 -- a record of a kind that has no numbers, and the offset past it
 abbrev pub plain : Kind → ℕ → Item

@@ -1,13 +1,13 @@
--- `script::values_at` meets its contract: the values from place i on are still to be read.
+-- `records::values_at` meets its contract: the values from place i on are still to be read.
 use mathlib.Core.Path.{_≡_, sym, ap, _∙_}
 use native.Mathlib.Omega.{arith}
-use Rattle.script.proofs.Numbers.{number-bad, number-read, within, above, values-next}
+use Rattle.records.proofs.Numbers.{number-bad, number-read, within, above, values-next}
 use borrow.Author.Needs.{needs}
 use lib.ListN.{replicate}
 use Prim.Native.Nat.{ℕ, _-_, _≤_, zero-le}
-use Rattle.script.specs.Records.{valuesAt}
-use Rattle.script.proofs.values_at.Statement.{statement}
-use Rattle.script.proofs.values_at.Tie as tie
+use Rattle.records.specs.Records.{valuesAt}
+use Rattle.records.proofs.values_at.Statement.{statement}
+use Rattle.records.proofs.values_at.Tie as tie
 
 abbrev Inv-loop : tie.InvT-loop
 Inv-loop bytes count start registers₀ at₀ i₀ registers at i = (i ≤ count) × (valuesAt bytes (count - i) i registers at ≡ valuesAt bytes count 0 (replicate 16 0) start)

@@ -1,11 +1,11 @@
--- `script::effects::fill_window` meets its contract.
+-- `script::fill_window` meets its contract.
 use mathlib.Core.Path.{sym, _∙_}
 use native.Mathlib.Omega.{arith}
 use borrow.Author.Tests.{not-true, not-false}
 use Rattle.script.proofs.Filling.{fill-windowless, fill-outside, fill-done}
 use borrow.Author.Needs.{needs}
-use Rattle.script.proofs.effects.fill_window.Statement.{statement}
-use Rattle.script.proofs.effects.fill_window.Tie as tie
+use Rattle.script.proofs.fill_window.Statement.{statement}
+use Rattle.script.proofs.fill_window.Tie as tie
 
 is-write-requires : tie.Need-is-write-requires
 is-write-requires c κs = search needs

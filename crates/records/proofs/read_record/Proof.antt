@@ -1,12 +1,12 @@
--- `script::read_record` meets its contract: each kind by its number.
+-- `records::read_record` meets its contract: each kind by its number.
 use borrow.Author.Tests.{ne-eqb}
 use mathlib.Core.Path.{sym, ap, _∙_}
-use Rattle.script.proofs.Numbers.{number-bad, number-read}
+use Rattle.records.proofs.Numbers.{number-bad, number-read}
 use Prim.Native.Nat.{ℕ}
-use Rattle.script.specs.Records.{ofKind, recordAt}
+use Rattle.records.specs.Records.{ofKind, recordAt}
 use borrow.Author.Needs.{needs}
-use Rattle.script.proofs.read_record.Statement.{statement}
-use Rattle.script.proofs.read_record.Tie as tie
+use Rattle.records.proofs.read_record.Statement.{statement}
+use Rattle.records.proofs.read_record.Tie as tie
 
 read-at-requires : tie.Need-read-at-requires
 read-at-requires c κs = search needs

@@ -11,8 +11,8 @@ use Rattle.leb128.specs.Groups.{readAt}
 use Rattle.leb128.specs.declared.Read.{Read}
 use Rattle.leb128.specs.declared.Read.the-variants.{Number, Short, Malformed}
 use Rattle.leb128.proofs.Read as read
-use Rattle.script.specs.declared.Item.{Item}
-use Rattle.script.specs.Records.{bad, withNumber, upTo, valuesAt}
+use Rattle.records.specs.declared.Item.{Item}
+use Rattle.records.specs.Records.{bad, withNumber, upTo, valuesAt}
 
 unread : (rest : ℕ → ℕ → Item) (r : Read) → (tagOf read.the-type r ≡ 1) ⊎ (tagOf read.the-type r ≡ 2) → withNumber r rest ≡ bad
 unread rest (Number value next) t = ⊎-elim (λ e. absurd (omega arith)) (λ e. absurd (omega arith)) t

@@ -1,13 +1,13 @@
--- `script::effects::serve` meets its contract: each kind of record by itself.
+-- `script::serve` meets its contract: each kind of record by itself.
 use mathlib.Core.Path.{sym, ap, _∙_}
 use mathlib.Core.Bool.{true}
-use Rattle.script.specs.declared.Kind.{Kind}
+use Rattle.records.specs.declared.Kind.{Kind}
 use Rattle.script.specs.Effects.{effected, leaves, commanded, effectOf}
-use Rattle.script.specs.declared.effects.Served.{Served}
+use Rattle.script.specs.declared.Served.{Served}
 use Rattle.session.specs.Machine.{setUp, lent}
 use borrow.Author.Needs.{needs}
-use Rattle.script.proofs.effects.serve.Statement.{statement}
-use Rattle.script.proofs.effects.serve.Tie as tie
+use Rattle.script.proofs.serve.Statement.{statement}
+use Rattle.script.proofs.serve.Tie as tie
 
 enum-told : tie.Need-enum-told
 enum-told c = search needs
