@@ -27,6 +27,8 @@ use windows::close_window;
 use windows::create_window;
 use windows::reset;
 ghost use mathlib.Core.Path.{_≡_};
+ghost use mathlib.Core.Bool.{_||_};
+ghost use lib.Dec.{eqb};
 ghost use Rattle.refusals.specs.declared.Reason.the-variants.{Accepted};
 ghost use Rattle.session.specs.Machine.{setUp, lent};
 ghost use Rattle.refusals.specs.Refusals.{reasonIn, codeFor};
@@ -122,14 +124,20 @@ fn refuse_argument(session: Session, registers: [u8; 16], flash: &mut [u8], memo
         ≡ argumentRefused registers (lent session (now (flash .entry)) (now (memory .entry))) ⌝ }
 {
     let next = with_number(session, registers);
-    let code = registers[0];
-    if code == 4 {
-        return close_window(next, registers, 2, flash, memory);
-    }
-    if code == 6 {
+    if is_create(registers[0]) {
         return close_window(next, registers, 2, flash, memory);
     }
     refuse(next, registers, 2)
+}
+
+// A create of either kind.
+fn is_create(command: u8) -> bool
+    ensures { λ r. ⌜ r ≡ (eqb command 4 || eqb command 6) ⌝ }
+{
+    if command == 4 {
+        return true;
+    }
+    command == 6
 }
 
 // The session with the command's number as the previous one.
