@@ -45,14 +45,14 @@ commanded setup h registers flash memory =
     (systemError h registers flash memory)
 
 -- suspend and resume, "on any session, sound or not": a call that has nothing to do "changes nothing and answers no; otherwise they answer
--- yes", and whether there is a previous number stays, whatever it is
+-- yes", and the record is that of the session, with h's own number for whether there is a previous one (house) and this number for the window
 abbrev pub answerOf : ℕ → Record → Suspension → Suspended
 answerOf window h a =
     cond (a .done)
     (record { done = true; held = withNumbers (h .numbered) window (recordOf (h .previous) (a .session)) })
     (record { done = false; held = h })
 
--- the window's number stays too
+-- the window keeps its number, also one above 2 (house)
 abbrev pub suspendedRecord : Record → Suspended
 suspendedRecord h = answerOf (h .window) h (suspended (sessionOf h))
 

@@ -9,7 +9,7 @@ use Rattle.session.specs.declared.Previous.{Previous}
 use Rattle.session.specs.declared.Previous.the-variants.{Absent, Number}
 use Rattle.board.specs.declared.Record.{Record}
 
--- "the window (none, read or write)": the number of each, and the window of a number
+-- "the window (none, read or write, ..": the number of each, and the window of a number
 abbrev pub windowNumber : Window → ℕ
 windowNumber Closed = 0
 windowNumber Read = 1
@@ -38,11 +38,11 @@ abbrev pub numberOr : ℕ → Previous → ℕ
 numberOr spare Absent = spare
 numberOr spare (Number n) = n
 
--- each number of the record stands for something, yes or no or a window: a record of which one does not is not sound
+-- each number of the record stands for something, yes or no or a window: a record of which one does not is not sound (house)
 abbrev pub isRegular : Record → Bool
 isRegular h = leb (h .numbered) 1 && (leb (h .suspended) 1 && leb (h .window) 2)
 
--- the session that a record stands for; a number above 1 counts as yes there
+-- the session that a record stands for; a flag above 1 counts as yes there, and a window number above 2 as none (house)
 abbrev pub sessionOf : Record → Session
 sessionOf h =
     record {
@@ -86,11 +86,12 @@ renumbered version numbered suspended window h =
       marks = h .marks;
     }
 
--- the same version and suspension
+-- with another number for whether there is a previous one, and another for the window
 abbrev pub withNumbers : ℕ → ℕ → Record → Record
 withNumbers numbered window h = renumbered (h .version) numbered (h .suspended) window h
 
--- the record of a session after a command, or, where the record before was not regular, with its own version and numbers
+-- the record of the session after a command; where the record h before it was not regular, with h's version and numbers. The rest of h is in the
+-- session then, which a refusal with SYSTEM_ERROR leaves as it is
 abbrev pub afterwards : Bool → Record → Session → Record
 afterwards regular h s =
     let next = recordOf (h .previous) s in

@@ -1,21 +1,23 @@
 -- The window's part of the flash, lent and back.
-use mathlib.Core.Path.{_≡_, ap, _∙_}
+use mathlib.Core.Path.{_≡_, sym, ap, _∙_}
 use mathlib.Core.Bool.{true, false}
-use mathlib.Core.List.{List}
-use Prim.Native.Nat.{ℕ, _+_, _-_, _≤_}
+use mathlib.Core.List.{List, []}
+use Prim.Native.Nat.{ℕ, zero, _+_, _-_, _≤_}
 use native.Mathlib.Omega.{arith}
 use lib.ListN.{length}
 use borrow.Rule.Slice.PartMut.{putMid, midOf, mid-len}
 use Rattle.buffers.specs.Ranges.{range, replace}
-use Rattle.buffers.proofs.Replace.{part-back}
+use Rattle.buffers.proofs.Replace.{part-back, replace-same}
 use Rattle.units.specs.Units.{toBytes}
 use Rattle.session.specs.declared.Session.{Session}
 use Rattle.flush.specs.Actions.{Action, performAll}
 use Rattle.session.specs.Machine.{Machine}
-use Rattle.soundness.specs.Soundness.{sound}
+use Rattle.soundness.specs.Soundness.{marksSound, sound}
+use Rattle.soundness.proofs.Facts.{part-within}
+use Rattle.flush.proofs.Lists.{flush-unmarked}
 use Rattle.flush.specs.declared.window.Step.{Step}
 use Rattle.flush.specs.declared.window.Step.the-variants.{Unsound, Suspended, Acted, Finished}
-use Rattle.flush.specs.Window.{windowActions, windowPart, performIn, hasNext, performNext, stepped, advanced, flushWhole}
+use Rattle.flush.specs.Window.{windowActions, windowPart, performIn, hasNext, performNext, stepped, advanced, Flushed, flushWhole}
 
 module _ (s : Session) (memory flash ys : List ℕ) (a n : ℕ) (start : a ≡ toBytes (s .first)) (size : n ≡ toBytes (s .size)) (fits : a + n ≤ length flash)
     (kept : length ys ≡ length (midOf a (a + n - a) flash)) where
@@ -64,3 +66,16 @@ pub flushed-all : (m : Machine) → sound (length (m .flash)) (length (m .memory
     → record { actions = length (windowActions (m .session)); flash = performIn (m .session) (m .memory) (windowActions (m .session)) (m .flash) } ≡ flushWhole m
 unfolding flushWhole
 flushed-all m t = rw t
+
+-- where nothing is marked there is no action, and the flash stays
+flushed-by : Machine → List Action → Flushed
+flushed-by m actions = record { actions = length actions; flash = performIn (m .session) (m .memory) actions (m .flash) }
+
+pub flushed-unmarked : (m : Machine) → sound (length (m .flash)) (length (m .memory)) (m .session) ≡ true → marksSound zero (m .session .marks) ≡ true
+    → record { actions = 0; flash = m .flash } ≡ flushWhole m
+unfolding flushed-by performIn performAll
+flushed-unmarked m t u =
+    let s = m .session in
+    let fits = part-within (length (m .flash)) (length (m .memory)) s t .0 in
+    sym (ap (flushed-by m) (flush-unmarked (s .marks) u) ∙ (λ i. record { actions = 0; flash = replace-same (toBytes (s .first)) (toBytes (s .size)) (m .flash) fits i }))
+    ∙ flushed-all m t

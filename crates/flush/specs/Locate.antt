@@ -9,7 +9,7 @@ use Rattle.flush.specs.declared.marked.Place.{Place}
 use Rattle.flush.specs.declared.marked.Place.the-variants.{At, Past}
 use Rattle.flush.specs.Actions.{Action, erase, program}
 
--- the nth action of a block that is erased and then programmed, and which of them a mark begins with
+-- which action of a block that is erased and then programmed a mark begins with, and the nth of them
 abbrev pub startOf : ℕ → ℕ
 startOf mark = cond (erases mark) 0 1
 

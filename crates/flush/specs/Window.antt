@@ -28,7 +28,7 @@ partEnd s = toBytes (s .first) + toBytes (s .size)
 unfoldable pub performIn : Session → List ℕ → List Action → List ℕ → List ℕ
 performIn s memory actions flash = replace (toBytes (s .first)) (performAll memory actions (windowPart s flash)) flash
 
--- there is an action after the first so many, and the flash after that action
+-- there is an action after the first so many, and the flash after that action; past the end "nothing changes"
 abbrev pub hasNext : Session → ℕ → Bool
 hasNext s done = ltb done (length (windowActions s))
 

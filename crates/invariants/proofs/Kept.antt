@@ -157,7 +157,8 @@ access-keeps setup flash memory s e = (
 )
 
 pub fresh-sound : FreshSound
-fresh-sound setup flash memory s e = refitted-at setup flash memory s fresh e (omega arith) refl (clean-sound 0 64)
+unfolding soundAt sound sessionSound
+fresh-sound setup flash memory sizes most = rw (sizes, le-leb _ _ most)
 
 pub flush-sound : FlushSound
 flush-sound setup registers m a =

@@ -60,8 +60,8 @@ abbrev pub becomes : Session → List ℕ → List ℕ → ℕ → ℕ
 becomes s flash memory x =
     cond (eqb (markAt s x) dirty) (windowByte s memory x) (cond (eqb (markAt s x) erasedMark) 0xff (getD flash x 0))
 
--- a session's marks carried out: what the flash is afterwards, byte by byte (in a dirty block where the window memory has a byte, a number below
--- 256: every lent buffer has), and how many actions that took, "17 for each dirty block plus 1 for each erased one, at most 1,088"
+-- a session's marks carried out: what the flash is afterwards, byte by byte, and how many actions that took, "17 for each dirty block plus 1 for
+-- each erased one, at most 1,088". Of a dirty block's byte it is asked that the window's is below 256, as every byte of a lent buffer is
 pub record CarriedOut (s : Session) (flash memory after : List ℕ) (actions : ℕ) : Type 0 where
   pub long : length after ≡ length flash
   pub bytes : (x : ℕ) → (markAt s x ≡ dirty → windowByte s memory x < 256) → getD after x 0 ≡ becomes s flash memory x

@@ -3,12 +3,13 @@
 use mathlib.Core.Path.{_≡_}
 use mathlib.Core.Bool.{true}
 use mathlib.Core.List.{List}
-use Prim.Native.Nat.{ℕ}
+use Prim.Native.Nat.{ℕ, _+_, _≤_}
 use lib.ListN.{length}
+use Rattle.units.specs.Units.{roundUp}
 use Rattle.session.specs.declared.Session.{Session}
 use Rattle.session.specs.Machine.{Setup, Machine}
 use Rattle.session.specs.Record.{fresh}
-use Rattle.soundness.specs.Soundness.{sound, soundAt, soundIn}
+use Rattle.soundness.specs.Soundness.{sizesSound, sound, soundAt, soundIn}
 use Rattle.session.specs.Suspension.{suspended, resumed, resumedChanged}
 use Rattle.refusals.specs.declared.Reason.the-variants.{Accepted}
 use Rattle.registers.specs.Registers.{commandOf}
@@ -16,9 +17,11 @@ use Rattle.refusals.specs.Refusals.{reasonIn}
 use Rattle.mailbox.specs.Commands.{numbered, flushing}
 use Rattle.mailbox.specs.Mediator.{mediate}
 
--- "A fresh session" is sound wherever any is: the sizes and B alone decide
+-- "A fresh session" is sound wherever the sizes and B are
 abbrev pub FreshSound : Type 0
-FreshSound = (setup : Setup) (flash memory : ℕ) (s : Session) → soundAt setup flash memory s ≡ true → soundAt setup flash memory fresh ≡ true
+FreshSound =
+    (setup : Setup) (flash memory : ℕ) → sizesSound flash memory ≡ true → setup .lpc + roundUp memory ≤ 65536
+    → soundAt setup flash memory fresh ≡ true
 
 -- any content of the registers, refused or not
 abbrev pub CommandKeeps : Type 0

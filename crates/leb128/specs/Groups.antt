@@ -26,7 +26,7 @@ pub data Decoded : Type 0 where
   cutShort : Decoded
   notShortest : Decoded
 
--- a group with the top bit set, before what was found behind it; "only the shortest form": the remaining bits are not all zero
+-- a group with the top bit set, before what was found behind it; "Only the shortest form": the remaining bits are not all zero
 abbrev pub before : ℕ → Decoded → Decoded
 before low (found rest size) = cond (eqb rest 0) notShortest (found (rest * 128 + low) (size + 1))
 before low cutShort = cutShort

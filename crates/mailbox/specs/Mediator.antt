@@ -27,8 +27,7 @@ served command setup registers m =
     (cond (eqb command 9) (leaving (ackAnswer (m .session) registers) m)
     (erasedOutcome registers m)))))))))
 
--- "A refusal has zero arguments and changes nothing but the previous sequence number, with two exceptions: SYSTEM_ERROR keeps even that, and
--- a create refused for its argument has already closed and flushed the old window."
+-- "A refusal has zero arguments and changes nothing but the previous sequence number": which of the two sessions it keeps stands in `answerTo`
 abbrev pub refused : ℕ → List ℕ → Machine → Outcome
 refused code registers m = leaving (answered (m .session) registers code [] 0) m
 
@@ -40,14 +39,14 @@ isCreate registers = eqb (commandOf registers) 4 || eqb (commandOf registers) 6
 abbrev pub numberedIn : List ℕ → Machine → Machine
 numberedIn registers m = holding (numbered (m .session) registers) m
 
--- the refusal for an argument
+-- the refusal for an argument: "a create refused for its argument has already closed and flushed the old window"
 abbrev pub argumentRefused : List ℕ → Machine → Outcome
 argumentRefused registers m =
     cond (isCreate registers)
     (closing (codeFor (m .session .version) Argument) registers (numberedIn registers m))
     (refused (codeFor (m .session .version) Argument) registers (numberedIn registers m))
 
--- what is left, by the first check that refuses
+-- what is left, by the first check that refuses; "SYSTEM_ERROR keeps even that", the previous number
 unfoldable pub answerTo : Reason → Setup → List ℕ → Machine → Outcome
 answerTo Accepted setup registers m = served (commandOf registers) setup registers (numberedIn registers m)
 answerTo System setup registers m = refused (codeFor (m .session .version) System) registers m

@@ -8,8 +8,8 @@ use Rattle.soundness.specs.Soundness.{soundIn}
 use Rattle.recovery.specs.Cut.{Event, cut, AtCut}
 use Rattle.recovery.specs.Second.{Way, Succeeds, SecondRun, StepsSucceed, secondEnd, secondFlash, unstopped, AddsNone, unstoppedFlash}
 
--- for every sound session with a write window and every first list: the flash at the cut is as 01 says, and "for every two such lists, the chip
--- equals that of the flush never stopped"; where a run flushes by steps, each of them succeeds
+-- for every sound session with a write window and every first list: what holds at the cut is as 01 says, and "for every two such lists, the chip
+-- equals that of the flush never stopped"; each of the N steps succeeds in both, whether the run flushes by them or not
 abbrev pub Demand3 : Type 0
 Demand3 =
     (setup : Setup) (m : Machine) → soundIn setup m ≡ true → m .session .window ≡ Write

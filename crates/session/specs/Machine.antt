@@ -1,5 +1,5 @@
--- What a call is given: what the board sets up, and what the call works on. The flush, the mediator and all that stands on it take these two
--- records whole, so that a thing more that is lent is a field here.
+-- What a call is given: what the board sets up, and what the call works on. The mediator and all that stands on it take these two records
+-- whole, and the flush the second, so that a thing more that is lent is a field here.
 use Prim.Native.Nat.{ℕ}
 use mathlib.Core.List.{List}
 use Rattle.session.specs.declared.Board.{Board}

@@ -117,9 +117,11 @@ fn narrow(markable: u16) -> u8
     64
 }
 
+// The marks are those of a window of which so many blocks may be marked; with 0, that nothing is marked.
+//
 // All marks are looked at, whatever the first ones are: a loop without a way out, with a count as narrow as
 // a mark beside the place, compiles to a few vector instructions.
-fn marks_are_sound(marks: [u8; 64], markable: u16) -> bool
+pub fn marks_are_sound(marks: [u8; 64], markable: u16) -> bool
     ensures { λ r. ⌜ r ≡ marksSound markable marks ⌝ }
 {
     let limit = narrow(markable);
