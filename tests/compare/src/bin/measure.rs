@@ -63,14 +63,18 @@ fn theirs(session: &Session, registers: [u8; 16], room: &mut Room) {
     black_box(second::command(&mut session, registers, 16, 8, &mut room.flash, &mut room.memory));
 }
 
-fn line(what: &str, other: &str, [ours, theirs]: [f64; 2], aim: f64) {
-    let ratio = ours / theirs;
-    let verdict = if ratio <= aim { "within" } else { "OVER" };
-    println!("| {what} | {ours:.0} ns | {other} | {theirs:.0} ns | {ratio:.2} | {aim:.2} | {verdict} |");
+/// One row: the times in the first place, and the least and the largest ratio of all places, which the aim is held to.
+fn line(what: &str, other: &str, places: &[[f64; 2]], aim: f64) {
+    let [ours, theirs] = places[0];
+    let ratios = places.iter().map(|[ours, theirs]| ours / theirs);
+    let (least, most) = ratios.fold((f64::MAX, 0.0), |(least, most): (f64, f64), ratio| (least.min(ratio), most.max(ratio)));
+    let ratio = if places.len() == 1 { format!("{most:.2}") } else { format!("{least:.2} to {most:.2}") };
+    let verdict = if most <= aim { "within" } else { "OVER" };
+    println!("| {what} | {ours:.0} ns | {other} | {theirs:.0} ns | {ratio} | {aim:.2} | {verdict} |");
 }
 
-/// The work on bytes, against the machine's own.
-fn against_the_machine(room: &mut Room, closed: &Record) {
+/// The work on bytes, against the machine's own: in several buffers, since the times depend on the pages that a buffer got.
+fn against_the_machine(rooms: &mut [Room], closed: &Record) {
     let dirty = record_of(&write_window(0, 64, 1), 0);
     let flush = |room: &mut Room| ours(&dirty, request(8, 0, 0), room, 64 * BLOCK);
     let fill = |room: &mut Room| {
@@ -81,13 +85,15 @@ fn against_the_machine(room: &mut Room, closed: &Record) {
         }
         black_box(&mut room.flash);
     };
-    line("flush of 64 dirty blocks", "memset and AND of the same bytes", least(200, 5, room, flush, fill), 1.5);
+    let flushes: Vec<_> = rooms.iter_mut().map(|room| least(200, 5, room, flush, fill)).collect();
+    line("flush of 64 dirty blocks", "memset and AND of the same bytes", &flushes, 1.5);
     let create = |room: &mut Room| ours(closed, request(4, 0, 64), room, 64 * BLOCK);
     let copy = |room: &mut Room| {
         room.memory.copy_from_slice(black_box(&room.flash));
         black_box(&mut room.memory);
     };
-    line("create of a 64-block window", "memcpy of the same bytes", least(200, 5, room, create, copy), 1.3);
+    let creates: Vec<_> = rooms.iter_mut().map(|room| least(200, 5, room, create, copy)).collect();
+    line("create of a 64-block window", "memcpy of the same bytes", &creates, 1.3);
 }
 
 /// The work on registers and marks, against the second implementation.
@@ -96,7 +102,7 @@ fn against_the_second(room: &mut Room) {
     let record = record_of(&clean, 0);
     for (what, registers) in [("GET_INFO", request(2, 2, 0)), ("MARK_DIRTY of one block", request(7, 1, 1)), ("MARK_DIRTY of 64 blocks", request(7, 0, 64))] {
         let both = least(200, 20_000, room, |room| ours(&record, registers, room, 64 * BLOCK), |room| theirs(&clean, registers, room));
-        line(what, "the second implementation", both, 1.0);
+        line(what, "the second implementation", &[both], 1.0);
     }
 }
 
@@ -112,16 +118,16 @@ fn against_a_small_chip(closed: &Record) {
         ("flush of 2 dirty blocks", &two, request(8, 0, 0), 500),
     ] {
         let both = least(200, calls, &mut room, |room| ours(record, registers, room, 65_535 * BLOCK), |room| ours(record, registers, room, 4 * BLOCK));
-        line(&format!("{what}, S = 65,535"), "S = 4", both, 1.1);
+        line(&format!("{what}, S = 65,535"), "S = 4", &[both], 1.1);
     }
 }
 
 fn main() {
     println!("| what | ours | against | that | ratio | aim | |");
     println!("|---|---|---|---|---|---|---|");
-    let mut room = Room { flash: vec![0x5a; 64 * BLOCK], memory: vec![0xa5; 64 * BLOCK] };
+    let mut rooms: Vec<_> = (0..8).map(|_| Room { flash: vec![0x5a; 64 * BLOCK], memory: vec![0xa5; 64 * BLOCK] }).collect();
     let closed = record_of(&Session { version: 2, ..Session::fresh() }, 0);
-    against_the_machine(&mut room, &closed);
-    against_the_second(&mut room);
+    against_the_machine(&mut rooms, &closed);
+    against_the_second(&mut rooms[0]);
     against_a_small_chip(&closed);
 }
