@@ -1,5 +1,6 @@
 -- What each call of the board's loop leaves, over the record that C keeps: the definitions of the crates below, of the session that the
 -- record stands for. A record with a number that stands for nothing is not sound.
+use mathlib.Core.Path.{_≡_}
 use Prim.Native.Nat.{ℕ}
 use mathlib.Core.Bool.{true, false, cond}
 use mathlib.Core.List.{List, []}
@@ -73,3 +74,13 @@ steppedRecord h memory done flash =
     cond (isRegular h)
     (advanced (lent (sessionOf h) flash memory) done)
     (record { code = 4; yes = false; flash = flash })
+
+-- a regular record stays regular, whatever the call, so that 4 never comes from a number that the calls themselves leave; a step leaves the record
+-- alone. Proved in proofs/Regular.antt
+abbrev pub StaysRegular : Type 0
+StaysRegular =
+    (h : Record) → isRegular h ≡ true
+    → ((setup : Setup) (registers flash memory : List ℕ) → isRegular (commanded setup h registers flash memory .held) ≡ true)
+    × (isRegular (suspendedRecord h .held) ≡ true)
+    × (isRegular (resumedRecord h .held) ≡ true)
+    × (isRegular (changedRecord h .held) ≡ true)
