@@ -12,11 +12,11 @@ use Rattle.session.specs.declared.Window.{Window}
 use Rattle.session.specs.declared.Window.the-variants.{Closed, Read, Write}
 use Rattle.session.specs.declared.Previous.{Previous}
 use Rattle.session.specs.declared.Previous.the-variants.{Absent, Number}
-use Rattle.session.specs.Machine.{Setup, Machine, lent, holding}
+use Rattle.session.specs.Machine.{Setup, lent}
 use Rattle.session.specs.Record.{withVersion}
 use Rattle.soundness.specs.Soundness.{sizesSound, sessionSound, sound, soundAt}
 use Rattle.refusals.specs.declared.Reason.the-variants.{System}
-use Rattle.refusals.specs.Refusals.{reasonFor, reasonIn}
+use Rattle.refusals.specs.Refusals.{reasonFor}
 use Rattle.mailbox.specs.Commands.{Outcome, answered}
 use Rattle.mailbox.specs.Mediator.{mediate, answerTo, refused}
 use Rattle.mailbox.proofs.Mediating.{mediate-as}

@@ -1,6 +1,6 @@
 -- A regular record stays regular: the claim stands in specs/Calls.antt.
 use mathlib.Core.Path.{_≡_, refl}
-use mathlib.Core.Bool.{Bool, true, false, cond, _&&_}
+use mathlib.Core.Bool.{Bool, true, false, _&&_}
 use Prim.Native.Nat.{ℕ}
 use lib.Dec.{leb}
 use Rattle.units.proofs.Cases.{both, chosen}

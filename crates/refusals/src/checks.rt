@@ -13,7 +13,7 @@ ghost use mathlib.Core.Path.{_≡_};
 ghost use mathlib.Core.Bool.{not, cond, _&&_, _||_};
 ghost use lib.Dec.{eqb, ltb};
 ghost use Rattle.session.specs.Machine.{setUp};
-ghost use Rattle.refusals.specs.Refusals.{blocksNamed, flushMarks, argumentBroken, isPrevious, repeated, known, suspendedFor, isWrite, windowless, reasonFor, codeFor};
+ghost use Rattle.refusals.specs.Refusals.{blocksNamed, flushMarks, argumentBroken, repeated, known, isWrite, windowless, reasonFor, codeFor};
 
 // The first check of the table that refuses a command, from the lengths of both buffers in bytes.
 pub fn reason_for(
