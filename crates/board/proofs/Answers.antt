@@ -7,6 +7,7 @@ use native.Mathlib.Omega.{arith}
 use borrow.Author.Tests.{leb-true}
 use Rattle.units.proofs.Cases.{both, chosen}
 use lib.Dec.{leb}
+use lib.ListN.{length}
 use Rattle.session.specs.declared.Session.{Session}
 use Rattle.session.specs.declared.Window.{Window}
 use Rattle.session.specs.declared.Window.the-variants.{Closed, Read, Write}
@@ -17,8 +18,8 @@ use Rattle.session.specs.Record.{withVersion}
 use Rattle.soundness.specs.Soundness.{sizesSound, sessionSound, sound, soundAt}
 use Rattle.refusals.specs.declared.Reason.the-variants.{System}
 use Rattle.refusals.specs.Refusals.{reasonFor}
-use Rattle.mailbox.specs.Commands.{Outcome, answered}
-use Rattle.mailbox.specs.Mediator.{mediate, answerTo, refused}
+use Rattle.mailbox.specs.Commands.{Outcome, answered, refused}
+use Rattle.mailbox.specs.Mediator.{reasonIn, answerTo, mediate}
 use Rattle.mailbox.proofs.Mediating.{mediate-as}
 use Rattle.board.specs.declared.Record.{Record}
 use Rattle.board.specs.Record.{isYes, yesNo, windowOf, windowNumber, previousOf, isNumbered, numberOr, isRegular, sessionOf, recordOf, afterwards}
@@ -30,15 +31,16 @@ unsound : (setup : Setup) (flash memory : ℕ) (s : Session) → soundAt setup f
 unfolding soundAt sound sessionSound
 unsound setup flash memory s = rw (and-false (sizesSound flash memory)) refl
 
-system : (setup : Setup) (s : Session) (registers : List ℕ) (flash memory : ℕ) → reasonFor setup (withVersion 255 s) registers flash memory ≡ System
+system : (setup : Setup) (registers : List ℕ) (s : Session) (flash memory : List ℕ)
+    → reasonIn setup registers (lent (withVersion 255 s) flash memory) ≡ System
 unfolding reasonFor
-system setup s registers flash memory = rw (unsound setup flash memory s) refl
+system setup registers s flash memory = rw (unsound setup (length flash) (length memory) s) refl
 
 pub unsound-refused : (setup : Setup) (registers : List ℕ) (s : Session) (flash memory : List ℕ)
     → mediate setup registers (lent (withVersion 255 s) flash memory) ≡ refused 4 registers (lent (withVersion 255 s) flash memory)
 unfolding answerTo
 unsound-refused setup registers s flash memory =
-    mediate-as setup registers (lent (withVersion 255 s) flash memory) System (system setup s registers _ _)
+    mediate-as setup registers (lent (withVersion 255 s) flash memory) System (system setup registers s flash memory)
 
 -- ---- the way there and back loses nothing
 

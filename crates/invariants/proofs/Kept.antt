@@ -7,7 +7,7 @@ use Prim.Native.Nat.{ℕ, _+_, _-_, _≤_, _<_, min}
 use native.Mathlib.Omega.{arith}
 use lib.Dec.{leb, eqb}
 use lib.ListN.{length}
-use borrow.Author.Tests.{le-leb, eqb-true, eqb-false, not-false}
+use borrow.Author.Tests.{le-leb, leb-false, eqb-false, not-false}
 use Rattle.units.proofs.Cases.{decided, chosen}
 use Rattle.units.specs.Units.{roundUp}
 use Rattle.session.specs.declared.Session.{Session}
@@ -15,17 +15,20 @@ use Rattle.session.specs.declared.Window.{Window}
 use Rattle.session.specs.declared.Window.the-variants.{Closed, Read, Write}
 use Rattle.session.specs.Machine.{Setup, lent}
 use Rattle.session.specs.Record.{clean, setBits, clearBits, withVersion, withAccess, withMarks, dropWindow, fresh}
-use Rattle.soundness.specs.Soundness.{activeSound, windowSound, markable, marksSound, sessionSound, sound, soundAt}
+use Rattle.soundness.specs.Soundness.{activeSound, windowSound, markable, marksSound, sessionSound, sound, soundAt, soundIn}
 use Rattle.soundness.proofs.Facts.{refitted-at}
 use Rattle.session.specs.Suspension.{controlLost, windowReset, answer, suspended}
 use Rattle.session.specs.Marks.{dirty, erasedMark}
 use Rattle.refusals.specs.declared.Reason.{Reason}
 use Rattle.refusals.specs.declared.Reason.the-variants.{Accepted, System, Repeated, Unknown, Suspended, Windowless, Argument}
 use Rattle.registers.specs.Registers.{commandOf, argument, number}
-use Rattle.refusals.specs.Refusals.{blocksNamed, flushMarks, argumentBroken, isWrite, windowless, reasonFor, reasonIn}
-use Rattle.refusals.proofs.Accepting.{passed, measured, named-within, create-argument, mark-argument, flush-argument, last-known}
+use Rattle.refusals.specs.declared.Needs.the-variants.{Access, WriteWindow}
+use Rattle.refusals.specs.Refusals.{blocksNamed, flushMarks, isWrite, reasonFor}
+use Rattle.refusals.proofs.Accepting.{passed, measured, named-within}
 use Rattle.mailbox.specs.Commands.{Outcome, numbered, sizeFor, hint, marked, created, ackAnswer}
-use Rattle.mailbox.specs.Mediator.{isCreate, served, answerTo, mediate}
+use Rattle.mailbox.specs.Table.{Command, create, from}
+use Rattle.mailbox.specs.Mediator.{commandAt, commandIn, reasonOf, reasonIn, answerTo, obeyed, mediate}
+use Rattle.mailbox.proofs.Mediating.{each-command}
 use Rattle.invariants.specs.Kept.{FreshSound, CommandKeeps, AccessKeeps, FlushSound}
 use Rattle.mailbox.proofs.Front.{size-fits}
 use Rattle.invariants.proofs.MarksKept.{clean-sound, marked-sound}
@@ -102,43 +105,57 @@ module _ (setup : Setup) (s : Session) (registers flash memory : List ℕ) (e : 
   version-keeps : soundAt setup (length flash) (length memory) (withVersion (min (argument 0 registers) 2) (numbered s registers)) ≡ true
   version-keeps = fits (withVersion (min (argument 0 registers) 2) (numbered s registers)) (omega arith) window marks
 
-  -- a command that no check refused
-  module _ (a : reasonFor setup s registers (length flash) (length memory) ≡ Accepted) where
-    writes : windowless s registers ≡ (true && not (isWrite (s .window))) → s .window ≡ Write
-    writes h = write-is (s .window) (not-false (isWrite (s .window)) (sym h ∙ passed setup s registers (length flash) (length memory) a .windowed))
+  -- a command that no check refused, by its row
+  abbrev Served : Command → Type 0
+  Served c =
+      (t : Bool) → reasonOf c t registers (lent s flash memory) ≡ Accepted → Keeps (c .leaves setup registers (lent (numbered s registers) flash memory))
 
-    argued : argumentBroken s registers (roundUp (length flash)) ≡ false
-    argued = passed setup s registers (length flash) (length memory) a .argued
+  create-served : (code : ℕ) (w : Window) → ((o z : ℕ) → windowSound w o z (roundUp (length flash)) (roundUp (length memory)) ≡ activeSound o z (roundUp (length flash)) (roundUp (length memory)))
+      → Served (create code w)
+  create-served code w active t a =
+      create-keeps w active (leb-false (roundUp (length flash)) (number 2 0 registers) (passed t s registers (from 1 (s .version)) Access (leb (roundUp (length flash)) (number 2 0 registers)) a .argued))
 
-    served-keeps : Keeps (served (commandOf registers) setup registers (lent (numbered s registers) flash memory))
-    unfolding served
-    served-keeps =
-        let c = commandOf registers in
-        chosen Keeps (eqb c 1) _ _ (λ _. drop-keeps) (λ n1.
-        chosen Keeps (eqb c 2) _ _ (λ _. version-keeps) (λ n2.
-        chosen Keeps (eqb c 3) _ _ (λ _. numbered-keeps) (λ n3.
-        chosen Keeps (eqb c 4) _ _ (λ t. create-keeps Read (λ o z. refl) (create-argument s registers (roundUp (length flash)) argued 4 (inl refl) (eqb-true c 4 t))) (λ n4.
-        chosen Keeps (eqb c 5) _ _ (λ _. drop-keeps) (λ n5.
-        chosen Keeps (eqb c 6) _ _ (λ t. create-keeps Write (λ o z. refl) (create-argument s registers (roundUp (length flash)) argued 6 (inr refl) (eqb-true c 6 t))) (λ n6.
-        chosen Keeps (eqb c 7) _ _ (λ t. marked-keeps dirty refl (writes (rw (eqb-true c 7 t))) (mark-argument s registers (roundUp (length flash)) argued 7 (inl refl) (eqb-true c 7 t))) (λ n7.
-        chosen Keeps (eqb c 8) _ _ (λ _. flush-keeps (flushMarks (numbered s registers) registers)) (λ n8.
-        chosen Keeps (eqb c 9) _ _ (λ _. fits (ackAnswer (numbered s registers) registers .session) known window marks) (λ n9.
-        let ten = last-known (s .version) c (passed setup s registers (length flash) (length memory) a .knows) (eqb-false c 1 n1) (eqb-false c 2 n2) (eqb-false c 3 n3) (eqb-false c 4 n4) (eqb-false c 5 n5) (eqb-false c 6 n6) (eqb-false c 7 n7) (eqb-false c 8 n8) (eqb-false c 9 n9) in
-        marked-keeps erasedMark refl (writes (rw ten)) (mark-argument s registers (roundUp (length flash)) argued 10 (inr refl) ten))))))))))
+  marked-served : (known : Bool) (mark : ℕ) → leb mark 2 ≡ true → (t : Bool)
+      → reasonFor t s registers known WriteWindow (not (blocksNamed s registers .inside)) ≡ Accepted
+      → soundAt setup (length flash) (length memory) (marked mark (numbered s registers) registers) ≡ true
+  marked-served known mark fine t a =
+      let p = passed t s registers known WriteWindow (not (blocksNamed s registers .inside)) a in
+      marked-keeps mark fine (write-is (s .window) (not-false (isWrite (s .window)) (p .windowed))) (not-false (blocksNamed s registers .inside) (p .argued))
+
+  served-keeps : (n : ℕ) → Served (commandAt n)
+  served-keeps =
+      each-command (λ (_ : ℕ). Served)
+      (λ t a. drop-keeps)
+      (λ t a. version-keeps)
+      (λ t a. numbered-keeps)
+      (create-served 4 Read (λ o z. refl))
+      (λ t a. drop-keeps)
+      (create-served 6 Write (λ o z. refl))
+      (marked-served (from 1 (s .version)) dirty refl)
+      (λ t a. flush-keeps (flushMarks (numbered s registers) registers))
+      (λ t a. fits (ackAnswer (numbered s registers) registers .session) known window marks)
+      (marked-served (from 2 (s .version)) erasedMark refl)
+      (λ n t a. absurd (false≢true (passed t s registers false Access false a .knows)))
+
+  -- a refusal for an argument
+  broken-keeps : (code n : ℕ) → Keeps (commandAt n .whenBroken code registers (lent (numbered s registers) flash memory))
+  broken-keeps code =
+      each-command (λ (_ : ℕ) (c : Command). Keeps (c .whenBroken code registers (lent (numbered s registers) flash memory)))
+      numbered-keeps numbered-keeps numbered-keeps drop-keeps numbered-keeps drop-keeps numbered-keeps numbered-keeps numbered-keeps numbered-keeps (λ _. numbered-keeps)
 
   -- whatever the first check that refuses
-  answer-keeps : (r : Reason) → reasonFor setup s registers (length flash) (length memory) ≡ r → Keeps (answerTo r setup registers (lent s flash memory))
+  answer-keeps : (r : Reason) → reasonIn setup registers (lent s flash memory) ≡ r → Keeps (answerTo r (commandIn registers) setup registers (lent s flash memory))
   unfolding answerTo
-  answer-keeps Accepted a = served-keeps a
+  answer-keeps Accepted a = served-keeps (commandOf registers) (soundIn setup (lent s flash memory)) a
   answer-keeps System a = e
   answer-keeps Repeated a = numbered-keeps
   answer-keeps Unknown a = numbered-keeps
   answer-keeps Suspended a = numbered-keeps
   answer-keeps Windowless a = numbered-keeps
-  answer-keeps Argument a = chosen Keeps (isCreate registers) _ _ (λ _. drop-keeps) (λ _. numbered-keeps)
+  answer-keeps Argument a = broken-keeps 2 (commandOf registers)
 
 pub command-keeps : CommandKeeps
-unfolding mediate
+unfolding mediate obeyed
 command-keeps setup registers m e = answer-keeps setup (m .session) registers (m .flash) (m .memory) e (reasonIn setup registers m) refl
 
 -- yes, or no and the session as it was
@@ -161,18 +178,20 @@ unfolding soundAt sound sessionSound
 fresh-sound setup flash memory sizes most = rw (sizes, le-leb _ _ most)
 
 pub flush-sound : FlushSound
+unfolding commandAt
 flush-sound setup registers m a =
     let s = m .session in
     let flash = m .flash in
     let memory = m .memory in
-    let p = passed setup s registers (length flash) (length memory) a in
-    let numbered-sound = measured setup (length flash) (length memory) (numbered s registers) (numbered-keeps setup s registers flash memory (p .sounds)) .sound in (
+    let sounds = passed (soundIn setup m) s registers _ _ _ a .sounds in
+    let numbered-sound = measured setup (length flash) (length memory) (numbered s registers) (numbered-keeps setup s registers flash memory sounds) .sound in (
       numbered-sound,
       λ c.
+          let p = passed (soundIn setup m) s registers (from 1 (s .version)) WriteWindow (flushMarks s registers && not (blocksNamed s registers .inside)) (ap (λ (n : ℕ). reasonOf (commandAt n) (soundIn setup m) registers m) (sym c) ∙ a) in
           chosen (λ (t : Session). sound (length flash) (length memory) t ≡ true) (flushMarks s registers) (marked dirty (numbered s registers) registers) (numbered s registers)
-          (λ m.
+          (λ adds.
           measured setup (length flash) (length memory) (marked dirty (numbered s registers) registers)
-          (marked-keeps setup s registers flash memory (p .sounds) dirty refl (write-is (s .window) (not-false (isWrite (s .window)) (rw c at (p .windowed)))) (flush-argument s registers (roundUp (length flash)) (p .argued) c m))
+          (marked-keeps setup s registers flash memory sounds dirty refl (write-is (s .window) (not-false (isWrite (s .window)) (p .windowed))) (not-false (blocksNamed s registers .inside) (rw adds at (p .argued))))
           .sound)
           (λ _. numbered-sound),
     )

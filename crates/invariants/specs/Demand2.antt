@@ -1,7 +1,7 @@
 -- Demand 2's last sentence, said of every command: "The two window marks are carried out as it says: dirty blocks become the window's bytes,
 -- erased blocks become FF." Of the chip actions only the number is told. Proved in proofs/Demand2.antt.
 use mathlib.Core.Path.{_≡_}
-use mathlib.Core.Bool.{cond, _&&_, _||_}
+use mathlib.Core.Bool.{Bool, cond, _&&_, _||_}
 use mathlib.Core.List.{List}
 use mathlib.Core.Option.{Option, none, some}
 use Prim.Native.Nat.{ℕ, _+_, _-_, _*_, _≤_, _<_}
@@ -15,9 +15,10 @@ use Rattle.flush.specs.Window.{partEnd}
 use Rattle.refusals.specs.declared.Reason.{Reason}
 use Rattle.refusals.specs.declared.Reason.the-variants.{Accepted, System, Repeated, Unknown, Suspended, Windowless, Argument}
 use Rattle.registers.specs.Registers.{commandOf}
-use Rattle.refusals.specs.Refusals.{isWrite, reasonIn}
+use Rattle.refusals.specs.Refusals.{isWrite}
 use Rattle.mailbox.specs.Commands.{flushing}
-use Rattle.mailbox.specs.Mediator.{isCreate, mediate}
+use Rattle.mailbox.specs.Table.{createReadWindow, closeWindow, createWriteWindow, flush}
+use Rattle.mailbox.specs.Mediator.{reasonIn, mediate}
 
 -- ---- whose marks a command carries out
 
@@ -25,12 +26,15 @@ use Rattle.mailbox.specs.Mediator.{isCreate, mediate}
 abbrev pub atClose : Session → Option Session
 atClose s = cond (isWrite (s .window)) (some s) none
 
--- a command that no check refused: a create closes the active window first (4, 6), CLOSE_WINDOW (5) closes it, and FLUSH (8) adds its own blocks,
--- "marked as in MARK_DIRTY", before; no other command flushes
+-- a create of either kind, by its code
+abbrev pub isCreate : ℕ → Bool
+isCreate code = eqb code (createReadWindow .code) || eqb code (createWriteWindow .code)
+
+-- a command that no check refused: a create closes the active window first, CLOSE_WINDOW closes it, and FLUSH adds its own blocks, "marked as in
+-- MARK_DIRTY", before; no other command flushes
 abbrev pub flushedBy : ℕ → Session → List ℕ → Option Session
-flushedBy command s registers =
-    cond (eqb command 4 || (eqb command 5 || eqb command 6)) (atClose s)
-    (cond (eqb command 8) (some (flushing s registers)) none)
+flushedBy code s registers =
+    cond (isCreate code || eqb code (closeWindow .code)) (atClose s) (cond (eqb code (flush .code)) (some (flushing s registers)) none)
 
 -- a refusal "changes nothing but the previous sequence number", but "a create refused for its argument has already closed and flushed the old
 -- window"
@@ -41,7 +45,7 @@ flushedFor Repeated s registers = none
 flushedFor Unknown s registers = none
 flushedFor Suspended s registers = none
 flushedFor Windowless s registers = none
-flushedFor Argument s registers = cond (isCreate registers) (atClose s) none
+flushedFor Argument s registers = cond (isCreate (commandOf registers)) (atClose s) none
 
 -- ---- what becomes of the flash
 

@@ -13,9 +13,9 @@ use Rattle.soundness.specs.Soundness.{sizesSound, sound, soundAt, soundIn}
 use Rattle.session.specs.Suspension.{suspended, resumed, resumedChanged}
 use Rattle.refusals.specs.declared.Reason.the-variants.{Accepted}
 use Rattle.registers.specs.Registers.{commandOf}
-use Rattle.refusals.specs.Refusals.{reasonIn}
 use Rattle.mailbox.specs.Commands.{numbered, flushing}
-use Rattle.mailbox.specs.Mediator.{mediate}
+use Rattle.mailbox.specs.Table.{flush}
+use Rattle.mailbox.specs.Mediator.{reasonIn, mediate}
 
 -- "A fresh session" is sound wherever the sizes and B are
 abbrev pub FreshSound : Type 0
@@ -43,4 +43,4 @@ abbrev pub FlushSound : Type 0
 FlushSound =
     (setup : Setup) (registers : List ℕ) (m : Machine) → reasonIn setup registers m ≡ Accepted
     → (sound (length (m .flash)) (length (m .memory)) (numbered (m .session) registers) ≡ true)
-    × (commandOf registers ≡ 8 → sound (length (m .flash)) (length (m .memory)) (flushing (numbered (m .session) registers) registers) ≡ true)
+    × (commandOf registers ≡ flush .code → sound (length (m .flash)) (length (m .memory)) (flushing (numbered (m .session) registers) registers) ≡ true)

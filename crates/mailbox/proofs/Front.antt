@@ -1,20 +1,29 @@
 -- A new window: its size, and its blocks copied to the front of the window memory.
-use mathlib.Core.Path.{_≡_, sym, ap, _∙_}
-use mathlib.Core.Bool.{true, false}
-use mathlib.Core.List.{List}
+use mathlib.Core.Path.{_≡_, refl, sym, ap, _∙_}
+use mathlib.Core.Bool.{Bool, true, false, cond}
+use mathlib.Core.List.{List, [], _∷_, _++_}
 use mathlib.Core.Logic.{⊎-elim}
-use Prim.Native.Nat.{ℕ, _+_, _-_, _≤_, _<_}
+use Prim.Native.Nat.{ℕ, _+_, _-_, _/_, _%_, _≤_, _<_}
 use native.Mathlib.Omega.{arith}
-use lib.Dec.{eqb}
+use lib.Dec.{leb, eqb, lit≤}
+use borrow.Author.Tests.{leb-false}
 use lib.ListN.{length}
 use borrow.Rule.Slice.PartMut.{putMid, midOf, mid-len}
 use Rattle.buffers.specs.Ranges.{range, replace, copyEach}
 use Rattle.buffers.proofs.Each.{copy-whole}
 use Rattle.buffers.proofs.Replace.{part-back}
-use Rattle.units.specs.Units.{toBytes}
+use Rattle.units.specs.Units.{toBytes, roundUp, toBlocks}
 use Rattle.units.proofs.Cases.{decided}
+use Rattle.session.specs.declared.Session.{Session}
 use Rattle.session.specs.declared.Window.{Window}
 use Rattle.session.specs.Machine.{Setup, Machine}
+use Rattle.soundness.specs.Soundness.{sizeSound}
+use Rattle.soundness.proofs.Facts.{sized, counted}
+use Rattle.refusals.specs.declared.Reason.the-variants.{Accepted}
+use Rattle.refusals.specs.declared.Needs.the-variants.{Access}
+use Rattle.refusals.specs.Refusals.{reasonFor}
+use Rattle.refusals.proofs.Accepting.{passed}
+use Rattle.registers.specs.Registers.{number, bytesOf, padded}
 use Rattle.mailbox.specs.Commands.{sizeFor, opened}
 
 pub copied-front : (flash memory ys : List ℕ) (a n first size : ℕ) → a ≡ toBytes first → n ≡ toBytes size → a + n ≤ length flash → n ≤ length memory
@@ -46,3 +55,33 @@ pub opened-as : (window : Window) (setup : Setup) (registers : List ℕ) (m : Ma
     → opened window o z setup registers m ≡ opened window o′ z′ setup registers m
 opened-as window setup registers m {o} {o′} {z} {z′} p q =
     ap (λ (k : ℕ). opened window k z setup registers m) p ∙ ap (λ (k : ℕ). opened window o′ k setup registers m) q
+
+-- ---- whether the first block of a new window lies in the flash
+
+-- the code's test, which counts the blocks as far as a flash may have them
+pub counted-outside : (registers : List ℕ) (flash blocks first : ℕ) → blocks ≡ toBlocks flash → first ≡ number 2 0 registers → sizeSound 65535 flash ≡ true
+    → leb blocks first ≡ leb (roundUp flash) (number 2 0 registers)
+counted-outside registers flash blocks first b f fits =
+    ap (λ (n : ℕ). leb n first) (b ∙ counted 65535 flash (lit≤ tt) (sized 65535 flash fits)) ∙ ap (leb (roundUp flash)) f
+
+-- what an accepted create has
+pub create-within : (s : Session) (registers : List ℕ) (known : Bool) (flash memory : ℕ)
+    → reasonFor true s registers known Access (leb (roundUp flash) (number 2 0 registers)) ≡ Accepted
+    → sizeSound 65535 flash ≡ true → sizeSound 64 memory ≡ true
+    → (number 2 0 registers < roundUp flash)
+    × (((toBytes (roundUp flash) ≡ flash) × (roundUp flash ≤ 65535)) × ((toBytes (roundUp memory) ≡ memory) × (roundUp memory ≤ 64)))
+create-within s registers known flash memory e fits room =
+    let p = passed true s registers known Access (leb (roundUp flash) (number 2 0 registers)) e in
+    let f = sized 65535 flash fits in
+    let m = sized 64 memory room in
+    (leb-false (roundUp flash) (number 2 0 registers) (p .argued), ((f .whole, f .few), (m .whole, m .few)))
+
+-- ---- the arguments of its answer, of which version 1 has the first alone
+abbrev pub createBytes : ℕ → ℕ → ℕ → List ℕ
+createBytes B size o =
+    B % 256 ∷ B / 256 % 256 ∷ size % 256 ∷ size / 256 % 256 ∷ o % 256 ∷ o / 256 % 256 ∷ 0 ∷ 0 ∷ 0 ∷ 0 ∷ 0 ∷ []
+
+pub late-arguments : (early : Bool) (B size o : ℕ)
+    → createBytes B (cond early 0 size) (cond early 0 o) ≡ padded (cond early (bytesOf 2 B) (bytesOf 2 B ++ (bytesOf 2 size ++ bytesOf 2 o)))
+late-arguments true B size o = refl
+late-arguments false B size o = refl

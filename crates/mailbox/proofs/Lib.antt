@@ -1,3 +1,4 @@
 mod Marking
 pub mod Front
 pub mod Mediating
+mod Refusing

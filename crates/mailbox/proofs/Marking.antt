@@ -1,13 +1,32 @@
--- Laws of marks replaced one after the other.
-use mathlib.Core.Path.{_≡_, ap, _∙_, sym}
+-- Laws of marks: the blocks that a command names, and marks replaced one after the other.
+use mathlib.Core.Path.{_≡_, sym, ap, subst, _∙_}
+use mathlib.Core.Bool.{true}
 use mathlib.Core.List.{List, [], _∷_, _++_}
-use Prim.Native.Nat.{ℕ, _+_, _<_}
-use native.Mathlib.Nat.{zero-add, suc-add}
+use Prim.Native.Nat.{ℕ, _+_, _≤_, _<_}
+use native.Mathlib.Nat.{zero-add, suc-add, le-refl, le-trans}
 use native.Mathlib.Omega.{arith}
 use lib.ListN.{length, set, take, drop, replicate, take-append-drop, length-drop, length-replicate}
 use lib.Seq.{drop-drop, length-take-le}
 use borrow.Author.Fill.{fill-more}
 use Rattle.buffers.specs.Ranges.{replace}
+use Rattle.units.specs.Units.{toBytes}
+use Rattle.session.specs.declared.Session.{Session}
+use Rattle.refusals.specs.Refusals.{blocksNamed}
+use Rattle.refusals.proofs.Accepting.{named-within}
+use Rattle.mailbox.specs.Commands.{numbered}
+
+-- the blocks that a command names in a window, from the session with its number
+pub named-fit : (s t : Session) (registers : List ℕ) (most : ℕ) → t ≡ numbered s registers → blocksNamed s registers .inside ≡ true → s .size ≤ most
+    → blocksNamed t registers .start + blocksNamed t registers .count ≤ most
+named-fit s t registers most e inside few =
+    subst (λ (u : Session). blocksNamed u registers .start + blocksNamed u registers .count ≤ most) (sym e) (le-trans (named-within s registers inside) few)
+
+-- and their bytes
+pub named-bytes-fit : (s t : Session) (registers : List ℕ) (long : ℕ) → t ≡ numbered s registers → blocksNamed s registers .inside ≡ true
+    → toBytes (s .size) ≤ long → toBytes (blocksNamed t registers .start) + toBytes (blocksNamed t registers .count) ≤ long
+named-bytes-fit s t registers long e inside fits =
+    let within = named-fit s t registers (s .size) e inside (le-refl (s .size)) in
+    omega (arith, within, fits)
 
 -- a store past the front of a list
 set-append-add : (xs ys : List ℕ) (i a : ℕ) → set (xs ++ ys) (length xs + i) a ≡ xs ++ set ys i a

@@ -33,6 +33,10 @@ outcome a flash memory = record { machine = lent (a .session) flash memory; regi
 abbrev pub leaving : Answer → Machine → Outcome
 leaving a m = outcome a (m .flash) (m .memory)
 
+-- the same of a command that looks at the session and the registers only
+abbrev pub alone : (Session → List ℕ → Answer) → List ℕ → Machine → Outcome
+alone answer registers m = leaving (answer (m .session) registers) m
+
 -- an answer: the session, a code, all 11 arguments and a number of chip actions
 abbrev pub answerWith : Session → List ℕ → ℕ → List ℕ → ℕ → Answer
 answerWith s registers code arguments actions =
@@ -45,6 +49,14 @@ answered s registers code arguments actions = answerWith s registers code (padde
 -- "Every other answered command makes its number the previous one"
 abbrev pub numbered : Session → List ℕ → Session
 numbered s registers = withPrevious (Number (sequenceOf registers)) s
+
+-- what a call is given, with its number as the previous one
+abbrev pub numberedIn : List ℕ → Machine → Machine
+numberedIn registers m = holding (numbered (m .session) registers) m
+
+-- "A refusal has zero arguments and changes nothing but the previous sequence number", which its session has already
+abbrev pub refused : ℕ → List ℕ → Machine → Outcome
+refused code registers m = leaving (answered (m .session) registers code [] 0) m
 
 -- "The latest mark of a block counts": the blocks named by the arguments get this mark
 abbrev pub marked : ℕ → Session → List ℕ → Session
@@ -68,11 +80,17 @@ infoAnswer setup s registers C =
     answered (withVersion (min (argument 0 registers) 2) s) registers 1
     (infoArguments (min (argument 0 registers) 2) C (setup .timeout)) 0
 
+abbrev pub informed : Setup → List ℕ → Machine → Outcome
+informed setup registers m = leaving (infoAnswer setup (m .session) registers (roundUp (length (m .memory)))) m
+
 -- ---- 3 GET_FLASH_INFO: "version 1: arguments 0-3 the flash size, 4-7 the granule, in bytes. Version 2: 0-1 S, 2-3 the number 1."
 abbrev pub flashInfoAnswer : Session → List ℕ → ℕ → Answer
 flashInfoAnswer s registers S =
     answered s registers 1
     (cond (ltb (s .version) 2) (bytesOf 4 (toBytes S) ++ bytesOf 4 blockBytes) (bytesOf 2 S ++ bytesOf 2 1)) 0
+
+abbrev pub flashInformed : List ℕ → Machine → Outcome
+flashInformed registers m = leaving (flashInfoAnswer (m .session) registers (roundUp (length (m .flash)))) m
 
 -- ---- 4 and 6, create a read or write window
 -- "The size is the smallest of C, S - o and, where n is given and not 0, n"; version 1 has no hint

@@ -1,2 +1,4 @@
+pub mod Calls
 pub mod Commands
 pub mod Mediator
+pub mod Table

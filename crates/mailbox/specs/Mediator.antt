@@ -1,61 +1,53 @@
 -- What a mailbox command leaves, for every content of the registers, every session and every buffer: document 01, "Registers" and "Commands".
 use Prim.Native.Nat.{ℕ}
-use mathlib.Core.Bool.{Bool, cond, _||_}
-use mathlib.Core.List.{List, []}
+use mathlib.Core.Bool.{Bool, cond}
+use mathlib.Core.List.{List, [], _∷_}
 use lib.Dec.{eqb}
 use lib.ListN.{length}
 use Rattle.units.specs.Units.{roundUp}
-use Rattle.session.specs.declared.Window.the-variants.{Read, Write}
-use Rattle.session.specs.Machine.{Setup, Machine, holding}
+use Rattle.session.specs.Machine.{Setup, Machine}
+use Rattle.soundness.specs.Soundness.{soundIn}
 use Rattle.refusals.specs.declared.Reason.{Reason}
 use Rattle.refusals.specs.declared.Reason.the-variants.{Accepted, System, Repeated, Unknown, Suspended, Windowless, Argument}
 use Rattle.registers.specs.Registers.{commandOf}
-use Rattle.refusals.specs.Refusals.{reasonIn, codeFor}
-use Rattle.mailbox.specs.Commands.{Outcome, leaving, numbered, answered, resetAnswer, infoAnswer, flashInfoAnswer, created, closing, closed, dirtyAnswer, flushed, ackAnswer, erasedOutcome}
+use Rattle.refusals.specs.Refusals.{reasonFor, codeFor}
+use Rattle.mailbox.specs.Commands.{Outcome, refused, numberedIn}
+use Rattle.mailbox.specs.Table.{Command, published, unknown}
 
--- the command that is carried out, by its code; of the codes that pass the table the last is 10, ERASE
-unfoldable pub served : ℕ → Setup → List ℕ → Machine → Outcome
-served command setup registers m =
-    cond (eqb command 1) (leaving (resetAnswer (m .session) registers) m)
-    (cond (eqb command 2) (leaving (infoAnswer setup (m .session) registers (roundUp (length (m .memory)))) m)
-    (cond (eqb command 3) (leaving (flashInfoAnswer (m .session) registers (roundUp (length (m .flash)))) m)
-    (cond (eqb command 4) (created Read setup registers m)
-    (cond (eqb command 5) (closed registers m)
-    (cond (eqb command 6) (created Write setup registers m)
-    (cond (eqb command 7) (leaving (dirtyAnswer (m .session) registers) m)
-    (cond (eqb command 8) (flushed registers m)
-    (cond (eqb command 9) (leaving (ackAnswer (m .session) registers) m)
-    (erasedOutcome registers m)))))))))
+-- the command of a code: the row of the table that has it
+abbrev pub rowOf : ℕ → List Command → Command
+rowOf code [] = unknown
+rowOf code (row ∷ rows) = cond (eqb code (row .code)) row (rowOf code rows)
 
--- "A refusal has zero arguments and changes nothing but the previous sequence number": which of the two sessions it keeps stands in `answerTo`
-abbrev pub refused : ℕ → List ℕ → Machine → Outcome
-refused code registers m = leaving (answered (m .session) registers code [] 0) m
+unfoldable pub commandAt : ℕ → Command
+commandAt code = rowOf code published
 
--- a create of either kind
-abbrev pub isCreate : List ℕ → Bool
-isCreate registers = eqb (commandOf registers) 4 || eqb (commandOf registers) 6
+-- the first check that refuses a command, from whether the lent sizes, B and the session keep the numbers
+abbrev pub reasonOf : Command → Bool → List ℕ → Machine → Reason
+reasonOf c sound registers m =
+    reasonFor sound (m .session) registers (c .known (m .session .version)) (c .needs) (c .broken (m .session) registers (roundUp (length (m .flash))))
 
--- what a call is given, with its number as the previous one
-abbrev pub numberedIn : List ℕ → Machine → Machine
-numberedIn registers m = holding (numbered (m .session) registers) m
+-- what is left, by that check; "SYSTEM_ERROR keeps even that", the previous number
+unfoldable pub answerTo : Reason → Command → Setup → List ℕ → Machine → Outcome
+answerTo Accepted c setup registers m = c .leaves setup registers (numberedIn registers m)
+answerTo System c setup registers m = refused (codeFor (m .session .version) System) registers m
+answerTo Repeated c setup registers m = refused (codeFor (m .session .version) Repeated) registers (numberedIn registers m)
+answerTo Unknown c setup registers m = refused (codeFor (m .session .version) Unknown) registers (numberedIn registers m)
+answerTo Suspended c setup registers m = refused (codeFor (m .session .version) Suspended) registers (numberedIn registers m)
+answerTo Windowless c setup registers m = refused (codeFor (m .session .version) Windowless) registers (numberedIn registers m)
+answerTo Argument c setup registers m = c .whenBroken (codeFor (m .session .version) Argument) registers (numberedIn registers m)
 
--- the refusal for an argument: "a create refused for its argument has already closed and flushed the old window"
-abbrev pub argumentRefused : List ℕ → Machine → Outcome
-argumentRefused registers m =
-    cond (isCreate registers)
-    (closing (codeFor (m .session .version) Argument) registers (numberedIn registers m))
-    (refused (codeFor (m .session .version) Argument) registers (numberedIn registers m))
+-- what a command leaves, refused or carried out
+unfoldable pub obeyed : Command → Bool → Setup → List ℕ → Machine → Outcome
+obeyed c sound setup registers m = answerTo (reasonOf c sound registers m) c setup registers m
 
--- what is left, by the first check that refuses; "SYSTEM_ERROR keeps even that", the previous number
-unfoldable pub answerTo : Reason → Setup → List ℕ → Machine → Outcome
-answerTo Accepted setup registers m = served (commandOf registers) setup registers (numberedIn registers m)
-answerTo System setup registers m = refused (codeFor (m .session .version) System) registers m
-answerTo Repeated setup registers m = refused (codeFor (m .session .version) Repeated) registers (numberedIn registers m)
-answerTo Unknown setup registers m = refused (codeFor (m .session .version) Unknown) registers (numberedIn registers m)
-answerTo Suspended setup registers m = refused (codeFor (m .session .version) Suspended) registers (numberedIn registers m)
-answerTo Windowless setup registers m = refused (codeFor (m .session .version) Windowless) registers (numberedIn registers m)
-answerTo Argument setup registers m = argumentRefused registers m
+-- the command that the registers hold, and the first check that refuses it
+abbrev pub commandIn : List ℕ → Command
+commandIn registers = commandAt (commandOf registers)
 
--- what a command leaves
+abbrev pub reasonIn : Setup → List ℕ → Machine → Reason
+reasonIn setup registers m = reasonOf (commandIn registers) (soundIn setup m) registers m
+
+-- what is left of what a call is given
 unfoldable pub mediate : Setup → List ℕ → Machine → Outcome
-mediate setup registers m = answerTo (reasonIn setup registers m) setup registers m
+mediate setup registers m = obeyed (commandIn registers) (soundIn setup m) setup registers m

@@ -1,17 +1,60 @@
 // GET_INFO and GET_FLASH_INFO.
 use crate::Answer;
 use crate::answers::answer;
+use crate::calls::Call;
+use crate::calls::refuse;
+use crate::calls::with_number;
+use refusals::Needs;
+use refusals::Reason;
+use refusals::reason_for;
 use session::Board;
 use session::Session;
 use session::with_version;
 use units::Blocks;
+use units::Bytes;
 ghost use mathlib.Core.Path.{_≡_};
-ghost use Prim.Native.Nat.{_<_};
+ghost use mathlib.Core.Bool.{true};
+ghost use mathlib.Core.List.{List};
+ghost use Prim.Native.Nat.{ℕ};
+ghost use lib.ListN.{length};
 ghost use Rattle.session.specs.Machine.{setUp};
-ghost use Rattle.mailbox.specs.Commands.{infoAnswer, flashInfoAnswer};
+ghost use Rattle.soundness.specs.Soundness.{sizeSound};
+ghost use Rattle.mailbox.specs.Commands.{outcome, infoAnswer, flashInfoAnswer};
+ghost use Rattle.mailbox.specs.Table.{getInfo, getFlashInfo};
+ghost use Rattle.mailbox.specs.Calls.{obeyedBy};
+
+// GET_INFO: the host's highest version is not 0.
+pub(crate) fn get_info(call: Call, memory: &[u8]) -> Answer
+    requires { ⌜ sizeSound 64 (length (now memory)) ≡ true ⌝ }
+    ensures { λ r. ⌜ ((flash : List ℕ) → outcome r flash (now (memory .entry)) ≡ obeyedBy getInfo call flash (now (memory .entry))) ⌝ }
+{
+    let session = call.session;
+    let registers = call.registers;
+    let reason = reason_for(session, registers, true, Needs::Nothing, registers[2] == 0);
+    let Reason::Accepted = reason else {
+        return refuse(call, reason);
+    };
+    let blocks = Bytes(memory.len() as u64).blocks().0;
+    agree(with_number(call), registers, call.board, blocks)
+}
+
+// GET_FLASH_INFO.
+pub(crate) fn get_flash_info(known: bool, call: Call, flash: &[u8]) -> Answer
+    requires { ⌜ (known ≡ getFlashInfo .known (call .session .version)) × (sizeSound 65535 (length (now flash)) ≡ true) ⌝ }
+    ensures { λ r. ⌜ ((memory : List ℕ) → outcome r (now (flash .entry)) memory ≡ obeyedBy getFlashInfo call (now (flash .entry)) memory) ⌝ }
+{
+    let session = call.session;
+    let registers = call.registers;
+    let reason = reason_for(session, registers, known, Needs::Access, false);
+    let Reason::Accepted = reason else {
+        return refuse(call, reason);
+    };
+    let blocks = Bytes(flash.len() as u64).blocks().0;
+    tell_flash(with_number(call), registers, blocks)
+}
 
 // Agrees the smaller of the host's highest version and 2; memory is the window memory in blocks.
-pub(crate) fn get_info(session: Session, registers: [u8; 16], board: Board, memory: u32) -> Answer
+fn agree(session: Session, registers: [u8; 16], board: Board, memory: u32) -> Answer
     ensures { λ r. ⌜ r ≡ infoAnswer (setUp board) session registers memory ⌝ }
 {
     if registers[2] < 2 {
@@ -37,7 +80,7 @@ pub(crate) fn get_info(session: Session, registers: [u8; 16], board: Board, memo
 }
 
 // The flash's size and erase granule: in bytes at version 1, in blocks from version 2 on.
-pub(crate) fn get_flash_info(session: Session, registers: [u8; 16], flash: u32) -> Answer
+fn tell_flash(session: Session, registers: [u8; 16], flash: u32) -> Answer
     ensures { λ r. ⌜ r ≡ flashInfoAnswer session registers flash ⌝ }
 {
     if session.version < 2 {

@@ -1,10 +1,17 @@
 // MARK_DIRTY, ERASE, FLUSH and ACK.
 use crate::Answer;
 use crate::answers::answer;
+use crate::calls::Call;
+use crate::calls::refuse;
+use crate::calls::with_number;
 use buffers::fill;
 use flush::flush_window;
+use refusals::Needs;
+use refusals::Reason;
 use refusals::blocks_named;
 use refusals::flush_marks;
+use refusals::flush_outside;
+use refusals::reason_for;
 use registers::NO_ARGUMENTS;
 use session::CLEAN;
 use session::DIRTY;
@@ -22,24 +29,75 @@ ghost use Rattle.buffers.specs.Ranges.{replace};
 ghost use Rattle.units.specs.Units.{toBytes};
 ghost use Rattle.session.specs.Machine.{lent};
 ghost use Rattle.refusals.specs.Refusals.{blocksNamed, flushMarks};
-ghost use Rattle.mailbox.specs.Commands.{outcome, marked, dirtyAnswer, flushedAll, flushed, ackAnswer, erasedOutcome};
+ghost use Rattle.soundness.specs.Soundness.{sound};
+ghost use Rattle.mailbox.specs.Commands.{outcome, marked, flushedAll, flushed, erasedOutcome};
+ghost use Rattle.mailbox.specs.Table.{markDirty, flush, ack, erase};
+ghost use Rattle.mailbox.specs.Calls.{obeyedBy};
 
-// The named blocks are marked dirty.
-pub(crate) fn mark_dirty(session: Session, registers: [u8; 16]) -> Answer
-    requires { ⌜ blocksNamed session registers .start + blocksNamed session registers .count ≤ 64 ⌝ }
-    ensures { λ r. ⌜ r ≡ dirtyAnswer session registers ⌝ }
+// MARK_DIRTY: the named blocks, which lie in the window, are marked dirty.
+pub(crate) fn mark_dirty(known: bool, call: Call) -> Answer
+    requires { ⌜ (known ≡ markDirty .known (call .session .version)) × (call .session .size ≤ 64) ⌝ }
+    ensures { λ r. ⌜ ((flash memory : List ℕ) → outcome r flash memory ≡ obeyedBy markDirty call flash memory) ⌝ }
 {
-    answer(
-        mark_named(session, registers, DIRTY),
-        registers,
-        1,
-        NO_ARGUMENTS,
-        0,
-    )
+    let session = call.session;
+    let registers = call.registers;
+    let outside = !blocks_named(session, registers).inside;
+    let reason = reason_for(session, registers, known, Needs::WriteWindow, outside);
+    let Reason::Accepted = reason else {
+        return refuse(call, reason);
+    };
+    let next = mark_named(with_number(call), registers, DIRTY);
+    answer(next, registers, 1, NO_ARGUMENTS, 0)
+}
+
+// ERASE: the named blocks, which lie in the window, are marked erased and become FF in the window memory.
+pub(crate) fn erase(known: bool, call: Call, memory: &mut [u8]) -> Answer
+    requires { ⌜ (known ≡ erase .known (call .session .version)) × (call .session .size ≤ 64) × (toBytes (call .session .size) ≤ length (now memory)) ⌝ }
+    ensures { λ r. ⌜ ((flash : List ℕ) → outcome r flash (now (memory .exit)) ≡ obeyedBy erase call flash (now (memory .entry))) ⌝ }
+{
+    let session = call.session;
+    let registers = call.registers;
+    let outside = !blocks_named(session, registers).inside;
+    let reason = reason_for(session, registers, known, Needs::WriteWindow, outside);
+    let Reason::Accepted = reason else {
+        return refuse(call, reason);
+    };
+    erase_named(with_number(call), registers, memory)
+}
+
+// FLUSH: the blocks that it marks lie in the window.
+pub(crate) fn flush(known: bool, call: Call, flash: &mut [u8], memory: &[u8]) -> Answer
+    requires { ⌜ (known ≡ flush .known (call .session .version)) × (call .session .size ≤ 64) ⌝ }
+    ensures { λ r. ⌜ outcome r (now (flash .exit)) (now (memory .entry)) ≡ obeyedBy flush call (now (flash .entry)) (now (memory .entry)) ⌝ }
+{
+    let session = call.session;
+    let registers = call.registers;
+    let outside = flush_outside(session, registers);
+    let reason = reason_for(session, registers, known, Needs::WriteWindow, outside);
+    let Reason::Accepted = reason else {
+        return refuse(call, reason);
+    };
+    flush_named(with_number(call), registers, flash, memory)
+}
+
+// ACK: clears the event bits that argument 0 names.
+pub(crate) fn acknowledge(call: Call) -> Answer
+    ensures { λ r. ⌜ ((flash memory : List ℕ) → outcome r flash memory ≡ obeyedBy ack call flash memory) ⌝ }
+{
+    let session = call.session;
+    let registers = call.registers;
+    let reason = reason_for(session, registers, true, Needs::NewNumber, false);
+    let Reason::Accepted = reason else {
+        return refuse(call, reason);
+    };
+    let next = with_number(call);
+    let events = next.events & (0xff - registers[2]);
+    let cleared = with_access(next, next.suspended, events);
+    answer(cleared, registers, 1, NO_ARGUMENTS, 0)
 }
 
 // The named blocks are marked erased, and become FF in the window memory.
-pub(crate) fn erase(session: Session, registers: [u8; 16], memory: &mut [u8]) -> Answer
+fn erase_named(session: Session, registers: [u8; 16], memory: &mut [u8]) -> Answer
     requires { ⌜ blocksNamed session registers .start + blocksNamed session registers .count ≤ 64 ⌝ }
     requires { ⌜ toBytes (blocksNamed session registers .start) + toBytes (blocksNamed session registers .count) ≤ length (now memory) ⌝ }
     ensures { λ r. ⌜ ((flash : List ℕ) → outcome r flash (now (memory .exit)) ≡ erasedOutcome registers (lent session flash (now (memory .entry)))) ⌝ }
@@ -58,12 +116,7 @@ pub(crate) fn erase(session: Session, registers: [u8; 16], memory: &mut [u8]) ->
 }
 
 // The marked blocks are flushed; at version 1 the named ones are marked dirty first.
-pub(crate) fn flush(
-    session: Session,
-    registers: [u8; 16],
-    flash: &mut [u8],
-    memory: &[u8],
-) -> Answer
+fn flush_named(session: Session, registers: [u8; 16], flash: &mut [u8], memory: &[u8]) -> Answer
     requires { ⌜ (flushMarks session registers ≡ true → blocksNamed session registers .start + blocksNamed session registers .count ≤ 64) ⌝ }
     ensures { λ r. ⌜ outcome r (now (flash .exit)) (now (memory .entry)) ≡ flushed registers (lent session (now (flash .entry)) (now (memory .entry))) ⌝ }
 {
@@ -88,20 +141,6 @@ fn flush_all(session: Session, registers: [u8; 16], flash: &mut [u8], memory: &[
         1,
         NO_ARGUMENTS,
         actions,
-    )
-}
-
-// Clears the event bits that argument 0 names.
-pub(crate) fn acknowledge(session: Session, registers: [u8; 16]) -> Answer
-    ensures { λ r. ⌜ r ≡ ackAnswer session registers ⌝ }
-{
-    let events = session.events & (0xff - registers[2]);
-    answer(
-        with_access(session, session.suspended, events),
-        registers,
-        1,
-        NO_ARGUMENTS,
-        0,
     )
 }
 

@@ -1,8 +1,14 @@
 // RESET, CREATE_READ_WINDOW, CREATE_WRITE_WINDOW and CLOSE_WINDOW.
 use crate::Answer;
 use crate::answers::answer;
+use crate::calls::Call;
+use crate::calls::refuse;
+use crate::calls::with_number;
 use buffers::copy;
 use flush::flush_window;
+use refusals::Needs;
+use refusals::Reason;
+use refusals::reason_for;
 use registers::NO_ARGUMENTS;
 use registers::read_words;
 use session::Board;
@@ -13,31 +19,129 @@ use session::without_window;
 use units::Blocks;
 use units::Bytes;
 ghost use mathlib.Core.Path.{_≡_};
-ghost use Prim.Native.Nat.{_+_, _-_, _≤_, _<_, min};
-ghost use mathlib.Core.Bool.{cond};
+ghost use Prim.Native.Nat.{ℕ, _+_, _-_, _≤_, _<_, min};
+ghost use mathlib.Core.Bool.{true, cond};
+ghost use mathlib.Core.List.{List};
 ghost use lib.Dec.{ltb};
 ghost use lib.ListN.{length};
 ghost use Rattle.buffers.specs.Ranges.{range, replace};
 ghost use Rattle.units.specs.Units.{toBytes, roundUp};
-ghost use Rattle.session.specs.Machine.{setUp, lent};
+ghost use Rattle.session.specs.Machine.{Setup, setUp, lent};
+ghost use Rattle.soundness.specs.Soundness.{sizeSound};
 ghost use Rattle.registers.specs.Registers.{number};
-ghost use Rattle.mailbox.specs.Commands.{outcome, answered, resetAnswer, closing, sizeFor, createArguments, opened, created};
+ghost use Rattle.refusals.specs.declared.Reason.the-variants.{Accepted, System};
+ghost use Rattle.refusals.specs.declared.Needs.the-variants.{Access};
+ghost use Rattle.refusals.specs.Refusals.{outsideFlash, reasonFor};
+ghost use Rattle.mailbox.specs.Commands.{outcome, answered, closing, sizeFor, createArguments, opened, created};
+ghost use Rattle.mailbox.specs.Table.{reset, create, createReadWindow, createWriteWindow, closeWindow};
+ghost use Rattle.mailbox.specs.Mediator.{answerTo};
+ghost use Rattle.mailbox.specs.Calls.{obeyedBy};
 
-// The window and its marks are dropped, without a flush.
-pub(crate) fn reset(session: Session, registers: [u8; 16]) -> Answer
-    ensures { λ r. ⌜ r ≡ resetAnswer session registers ⌝ }
+// RESET: the window and its marks are dropped, without a flush.
+pub(crate) fn reset(call: Call) -> Answer
+    ensures { λ r. ⌜ ((flash memory : List ℕ) → outcome r flash memory ≡ obeyedBy reset call flash memory) ⌝ }
 {
-    answer(without_window(session), registers, 1, NO_ARGUMENTS, 0)
+    let session = call.session;
+    let registers = call.registers;
+    let reason = reason_for(session, registers, true, Needs::Access, false);
+    let Reason::Accepted = reason else {
+        return refuse(call, reason);
+    };
+    let next = without_window(with_number(call));
+    answer(next, registers, 1, NO_ARGUMENTS, 0)
+}
+
+// CLOSE_WINDOW.
+pub(crate) fn close_window(known: bool, call: Call, flash: &mut [u8], memory: &[u8]) -> Answer
+    requires { ⌜ known ≡ closeWindow .known (call .session .version) ⌝ }
+    ensures { λ r. ⌜ outcome r (now (flash .exit)) (now (memory .entry)) ≡ obeyedBy closeWindow call (now (flash .entry)) (now (memory .entry)) ⌝ }
+{
+    let session = call.session;
+    let registers = call.registers;
+    let reason = reason_for(session, registers, known, Needs::Access, false);
+    let Reason::Accepted = reason else {
+        return refuse(call, reason);
+    };
+    close(with_number(call), registers, 1, flash, memory)
+}
+
+// CREATE_READ_WINDOW.
+pub(crate) fn create_read_window(
+    known: bool,
+    call: Call,
+    flash: &mut [u8],
+    memory: &mut [u8],
+) -> Answer
+    requires { ⌜ (known ≡ createReadWindow .known (call .session .version)) × (sizeSound 65535 (length (now flash)) ≡ true) × (sizeSound 64 (length (now memory)) ≡ true) ⌝ }
+    ensures { λ r. ⌜ outcome r (now (flash .exit)) (now (memory .exit)) ≡ obeyedBy createReadWindow call (now (flash .entry)) (now (memory .entry)) ⌝ }
+{
+    let reason = create_reason(known, call, flash.len());
+    let Reason::Accepted = reason else {
+        return refuse_create(call, reason, flash, memory);
+    };
+    let registers = call.registers;
+    open_at(
+        Window::Read,
+        with_number(call),
+        registers,
+        call.board,
+        flash,
+        memory,
+    )
+}
+
+// CREATE_WRITE_WINDOW.
+pub(crate) fn create_write_window(
+    known: bool,
+    call: Call,
+    flash: &mut [u8],
+    memory: &mut [u8],
+) -> Answer
+    requires { ⌜ (known ≡ createWriteWindow .known (call .session .version)) × (sizeSound 65535 (length (now flash)) ≡ true) × (sizeSound 64 (length (now memory)) ≡ true) ⌝ }
+    ensures { λ r. ⌜ outcome r (now (flash .exit)) (now (memory .exit)) ≡ obeyedBy createWriteWindow call (now (flash .entry)) (now (memory .entry)) ⌝ }
+{
+    let reason = create_reason(known, call, flash.len());
+    let Reason::Accepted = reason else {
+        return refuse_create(call, reason, flash, memory);
+    };
+    let registers = call.registers;
+    open_at(
+        Window::Write,
+        with_number(call),
+        registers,
+        call.board,
+        flash,
+        memory,
+    )
+}
+
+// The first check that refuses a create, from the length of the flash in bytes: its block must lie there.
+fn create_reason(known: bool, call: Call, flash: usize) -> Reason
+    requires { ⌜ sizeSound 65535 flash ≡ true ⌝ }
+    ensures { λ r. ⌜ r ≡ reasonFor true (call .session) (call .registers) known Access (outsideFlash (call .session) (call .registers) (roundUp flash)) ⌝ }
+{
+    let session = call.session;
+    let registers = call.registers;
+    let blocks = Bytes(flash as u64).blocks().0;
+    let outside = blocks <= read_words(registers).first as u32;
+    reason_for(session, registers, known, Needs::Access, outside)
+}
+
+// A create that is refused: for its argument the active window is closed all the same.
+fn refuse_create(call: Call, reason: Reason, flash: &mut [u8], memory: &[u8]) -> Answer
+    ensures { λ r. ⌜ ((code : ℕ) (window : Window) (setup : Setup) → (reason ≡ Accepted → ⊥) → (reason ≡ System → ⊥)
+        → outcome r (now (flash .exit)) (now (memory .entry))
+        ≡ answerTo reason (create code window) setup (call .registers) (lent (call .session) (now (flash .entry)) (now (memory .entry)))) ⌝ }
+{
+    let registers = call.registers;
+    match reason {
+        Reason::Argument => close(with_number(call), registers, 2, flash, memory),
+        _ => refuse(call, reason),
+    }
 }
 
 // The window is flushed and dropped; the code is that of the answer.
-pub(crate) fn close_window(
-    session: Session,
-    registers: [u8; 16],
-    code: u8,
-    flash: &mut [u8],
-    memory: &[u8],
-) -> Answer
+fn close(session: Session, registers: [u8; 16], code: u8, flash: &mut [u8], memory: &[u8]) -> Answer
     ensures { λ r. ⌜ outcome r (now (flash .exit)) (now (memory .entry)) ≡ closing code registers (lent session (now (flash .entry)) (now (memory .entry))) ⌝ }
 {
     let actions = flush_window(session, flash, memory);
@@ -51,7 +155,7 @@ pub(crate) fn close_window(
 }
 
 // The active window is closed, and a new one is opened at a block of the flash.
-pub(crate) fn create_window(
+fn open_at(
     window: Window,
     session: Session,
     registers: [u8; 16],
@@ -157,21 +261,14 @@ fn copy_blocks(flash: &[u8], memory: &mut [u8], first: u16, size: u16)
 fn open_answer(session: Session, registers: [u8; 16], lpc: u16, actions: u32) -> Answer
     ensures { λ r. ⌜ r ≡ answered session registers 1 (createArguments (session .version) lpc (session .size) (session .first)) actions ⌝ }
 {
+    let size = late(session.version, session.size);
+    let first = late(session.version, session.first);
     let b0 = (lpc % 256) as u8;
     let b1 = (lpc / 256 % 256) as u8;
-    if session.version < 2 {
-        return answer(
-            session,
-            registers,
-            1,
-            [b0, b1, 0, 0, 0, 0, 0, 0, 0, 0, 0],
-            actions,
-        );
-    }
-    let s0 = (session.size % 256) as u8;
-    let s1 = (session.size / 256 % 256) as u8;
-    let f0 = (session.first % 256) as u8;
-    let f1 = (session.first / 256 % 256) as u8;
+    let s0 = (size % 256) as u8;
+    let s1 = (size / 256 % 256) as u8;
+    let f0 = (first % 256) as u8;
+    let f1 = (first / 256 % 256) as u8;
     answer(
         session,
         registers,
@@ -179,4 +276,11 @@ fn open_answer(session: Session, registers: [u8; 16], lpc: u16, actions: u32) ->
         [b0, b1, s0, s1, f0, f1, 0, 0, 0, 0, 0],
         actions,
     )
+}
+
+// A number of the answer, which only version 2 has.
+fn late(version: u8, number: u16) -> u16
+    ensures { λ r. ⌜ r ≡ cond (ltb version 2) 0 number ⌝ }
+{
+    if version < 2 { 0 } else { number }
 }

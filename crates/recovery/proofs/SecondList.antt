@@ -1,12 +1,13 @@
 -- The second run: what each of its calls leaves.
 use mathlib.Core.Path.{_≡_, refl, sym, ap, _∙_, subst}
-use mathlib.Core.Bool.{Bool, true, false, cond}
+use mathlib.Core.Bool.{Bool, true, false, cond, not}
 use mathlib.Core.List.{List, [], _∷_}
-use mathlib.Core.Logic.{_⊎_, inr, ⊎-elim}
+use mathlib.Core.Logic.{_⊎_, ⊎-elim}
 use Prim.Native.Nat.{ℕ, _+_, _≤_, min}
 use native.Mathlib.Omega.{arith}
-use lib.Dec.{ltb}
+use lib.Dec.{leb, ltb}
 use lib.ListN.{length, getD}
+use borrow.Author.Tests.{leb-false, not-false}
 use Rattle.units.specs.Units.{toBytes, roundUp}
 use Rattle.units.proofs.Cases.{decided}
 use Rattle.buffers.specs.Ranges.{range, replace}
@@ -18,7 +19,7 @@ use Rattle.session.specs.declared.Window.the-variants.{Write}
 use Rattle.session.specs.Machine.{Setup, Machine, lent}
 use Rattle.session.specs.Marks.{dirty, erasedMark}
 use Rattle.session.specs.Record.{clean, fresh, withVersion, withMarks}
-use Rattle.soundness.specs.Soundness.{sound, sessionSound}
+use Rattle.soundness.specs.Soundness.{sound, sessionSound, soundIn}
 use Rattle.soundness.proofs.Facts.{part-within}
 use Rattle.flush.specs.Actions.{Action, flushActions, actionsFrom, blockActions}
 use Rattle.flush.specs.Window.{windowActions, performIn, flushWhole}
@@ -26,11 +27,13 @@ use Rattle.flush.proofs.Whole.{in-none}
 use Rattle.refusals.specs.declared.Reason.{Reason}
 use Rattle.refusals.specs.declared.Reason.the-variants.{Accepted, System, Repeated, Unknown, Suspended, Windowless, Argument}
 use Rattle.registers.specs.Registers.{commandOf, argument, number}
+use Rattle.refusals.specs.declared.Needs.the-variants.{Access, WriteWindow}
 use Rattle.refusals.specs.Refusals.{blocksNamed, flushMarks, reasonFor, codeFor}
-use Rattle.mailbox.specs.Commands.{Outcome, numbered, sizeFor, closing, hint, marked, flushing, created, flushedAll}
-use Rattle.mailbox.specs.Mediator.{numberedIn, isCreate, refused, served, answerTo, mediate}
-use Rattle.refusals.proofs.Accepting.{Passed, passed, Measured, measured, named-within, create-argument, mark-argument}
-use Rattle.mailbox.proofs.Mediating.{mediate-as}
+use Rattle.mailbox.specs.Commands.{Outcome, numbered, numberedIn, sizeFor, hint, marked, flushing, created, flushedAll}
+use Rattle.mailbox.specs.Table.{Command, from}
+use Rattle.mailbox.specs.Mediator.{commandAt, commandIn, reasonOf, reasonIn, answerTo, mediate}
+use Rattle.refusals.proofs.Accepting.{Passed, passed, Measured, measured, named-within}
+use Rattle.mailbox.proofs.Mediating.{mediate-as, each-command}
 use Rattle.mailbox.proofs.Front.{size-fits}
 use Rattle.recovery.specs.Second.{response, sent, Call, send, write, Allowed, AllAllowed, called, calledAll, begun}
 
@@ -40,13 +43,20 @@ module _ (setup : Setup) (s : Session) (registers flash memory : List ℕ) where
   code o = getD (o .registers) 13 0
 
   reason : Reason
-  reason = reasonFor setup s registers (length flash) (length memory)
+  reason = reasonIn setup registers (lent s flash memory)
 
   late : (a b : ℕ) → (a ≡ 1 → ⊥) → (b ≡ 1 → ⊥) → (t : Bool) → cond t a b ≡ 1 → ⊥
   late a b p q true e = p e
   late a b p q false e = q e
 
-  refused-code : (r : Reason) → (r ≡ Accepted → ⊥) → code (answerTo r setup registers (lent s flash memory)) ≡ 1 → ⊥
+  -- a refusal for an argument, of a create or of another command, has code 2
+  broken-code : (n : ℕ) → code (commandAt n .whenBroken 2 registers (lent (numbered s registers) flash memory)) ≡ 1 → ⊥
+  broken-code = each-command (λ (_ : ℕ) (c : Command). code (c .whenBroken 2 registers (lent (numbered s registers) flash memory)) ≡ 1 → ⊥) two two two two two two two two two two (λ _. two)
+    where
+      two : _≡_ {A = ℕ} 2 1 → ⊥
+      two q = omega arith
+
+  refused-code : (r : Reason) → (r ≡ Accepted → ⊥) → code (answerTo r (commandIn registers) setup registers (lent s flash memory)) ≡ 1 → ⊥
   unfolding answerTo
   refused-code Accepted n e = n refl
   refused-code System n e = omega arith
@@ -54,22 +64,15 @@ module _ (setup : Setup) (s : Session) (registers flash memory : List ℕ) where
   refused-code Unknown n e = omega arith
   refused-code Suspended n e = late 5 6 (λ q. omega arith) (λ q. omega arith) (ltb (s .version) 2) e
   refused-code Windowless n e = late 2 7 (λ q. omega arith) (λ q. omega arith) (ltb (s .version) 2) e
-  refused-code Argument n e =
-      ⊎-elim
-      (λ (t : isCreate registers ≡ true). two (rw t at e))
-      (λ (t : isCreate registers ≡ false). two (rw t at e))
-      (decided (isCreate registers))
-    where
-      two : _≡_ {A = ℕ} 2 1 → ⊥
-      two q = omega arith
+  refused-code Argument n e = broken-code (commandOf registers) e
 
-  accepted : code (mediate setup registers (lent s flash memory)) ≡ 1 → reasonFor setup s registers (length flash) (length memory) ≡ Accepted
-  accepted h = go (reasonFor setup s registers (length flash) (length memory)) refl
+  accepted : code (mediate setup registers (lent s flash memory)) ≡ 1 → reasonIn setup registers (lent s flash memory) ≡ Accepted
+  accepted h = go (reasonIn setup registers (lent s flash memory)) refl
     where
-      no : (r : Reason) → reasonFor setup s registers (length flash) (length memory) ≡ r → (r ≡ Accepted → ⊥) → ⊥
+      no : (r : Reason) → reasonIn setup registers (lent s flash memory) ≡ r → (r ≡ Accepted → ⊥) → ⊥
       no r e n = refused-code r n (ap code (sym (mediate-as setup registers (lent s flash memory) r e)) ∙ h)
 
-      go : (r : Reason) → reasonFor setup s registers (length flash) (length memory) ≡ r → reasonFor setup s registers (length flash) (length memory) ≡ Accepted
+      go : (r : Reason) → reasonIn setup registers (lent s flash memory) ≡ r → reasonIn setup registers (lent s flash memory) ≡ Accepted
       go Accepted e = e
       go System e = absurd (no System e (λ q. let z : _≡_ {A = ℕ} 0 1 = cc in omega arith))
       go Repeated e = absurd (no Repeated e (λ q. let z : _≡_ {A = ℕ} 0 1 = cc in omega arith))
@@ -79,12 +82,18 @@ module _ (setup : Setup) (s : Session) (registers flash memory : List ℕ) where
       go Argument e = absurd (no Argument e (λ q. let z : _≡_ {A = ℕ} 0 1 = cc in omega arith))
 
   -- and leaves what its command says
-  pub carried : (k : ℕ) → commandOf registers ≡ k → reasonFor setup s registers (length flash) (length memory) ≡ Accepted
-      → mediate setup registers (lent s flash memory) ≡ served k setup registers (lent (numbered s registers) flash memory)
+  pub carried : (k : ℕ) → commandOf registers ≡ k → reasonIn setup registers (lent s flash memory) ≡ Accepted
+      → mediate setup registers (lent s flash memory) ≡ commandAt k .leaves setup registers (lent (numbered s registers) flash memory)
   unfolding answerTo
   carried k e a =
       mediate-as setup registers (lent s flash memory) Accepted a
-      ∙ ap (λ (c : ℕ). served c setup registers (lent (numbered s registers) flash memory)) e
+      ∙ ap (λ (n : ℕ). commandAt n .leaves setup registers (lent (numbered s registers) flash memory)) e
+
+  -- as its row of the table has it
+  pub accepted-at : (k : ℕ) → commandOf registers ≡ k → code (mediate setup registers (lent s flash memory)) ≡ 1
+      → reasonOf (commandAt k) (soundIn setup (lent s flash memory)) registers (lent s flash memory) ≡ Accepted
+  accepted-at k e h =
+      ap (λ (n : ℕ). reasonOf (commandAt n) (soundIn setup (lent s flash memory)) registers (lent s flash memory)) (sym e) ∙ accepted h
 
 -- ---- a flush without marks leaves the flash
 clean-none : flushActions clean ≡ []
@@ -118,7 +127,7 @@ flush-from s registers false same = refl
 pub flush-leaves : (setup : Setup) (s : Session) (registers flash memory : List ℕ) → commandOf registers ≡ 8
     → getD (mediate setup registers (lent s flash memory) .registers) 13 0 ≡ 1 → flushing s registers .marks ≡ s .marks
     → sound (length flash) (length memory) s ≡ true → mediate setup registers (lent s flash memory) .machine .flash ≡ performIn s memory (windowActions s) flash
-unfolding served
+unfolding commandAt
 flush-leaves setup s registers flash memory c ok none e =
     ap (λ (o : Outcome). o .machine .flash) (carried setup s registers flash memory 8 c (accepted setup s registers flash memory ok))
     ∙ ap (λ (t : Session). flushedAll registers (lent t flash memory) .machine .flash) (flush-from s registers (flushMarks s registers) none)
@@ -138,7 +147,7 @@ pub record Open (first size long : ℕ) (flash : List ℕ) (m : Machine) : Type 
 pub info-leaves : (setup : Setup) (registers flash memory : List ℕ) → commandOf registers ≡ 2 → response setup registers (begun flash memory) ≡ 1
     → sent setup registers (begun flash memory)
     ≡ lent (withVersion (min (argument 0 registers) 2) (numbered fresh registers)) flash memory
-unfolding served
+unfolding commandAt
 info-leaves setup registers flash memory c ok =
     ap (λ (o : Outcome). o .machine) (carried setup fresh registers flash memory 2 c (accepted setup fresh registers flash memory ok))
 
@@ -146,11 +155,17 @@ info-leaves setup registers flash memory c ok =
 module _ (setup : Setup) (s : Session) (registers flash memory : List ℕ) (c : commandOf registers ≡ 6)
     (ok : getD (mediate setup registers (lent s flash memory) .registers) 13 0 ≡ 1) (none : s .marks ≡ clean) where
   create-leaves : mediate setup registers (lent s flash memory) ≡ created Write setup registers (lent (numbered s registers) flash memory)
-  unfolding served
+  unfolding commandAt
   create-leaves = carried setup s registers flash memory 6 c (accepted setup s registers flash memory ok)
 
   create-flash : mediate setup registers (lent s flash memory) .machine .flash ≡ flash
   create-flash = ap (λ (o : Outcome). o .machine .flash) create-leaves ∙ flush-clean (numbered s registers) memory flash none
+
+  argued : Passed (soundIn setup (lent s flash memory)) s registers (from 1 (s .version)) Access (leb (roundUp (length flash)) (number 2 0 registers))
+  unfolding commandAt
+  argued =
+      passed (soundIn setup (lent s flash memory)) s registers (from 1 (s .version)) Access (leb (roundUp (length flash)) (number 2 0 registers))
+      (accepted-at setup s registers flash memory 6 c ok)
 
   create-memory : length (mediate setup registers (lent s flash memory) .machine .memory) ≡ length memory
   create-memory =
@@ -158,11 +173,8 @@ module _ (setup : Setup) (s : Session) (registers flash memory : List ℕ) (c : 
       ∙ ap (λ (f : List ℕ). length (replace 0 (range (toBytes o) (toBytes z) f) memory)) (flush-clean (numbered s registers) memory flash none)
       ∙ replace-length 0 (range (toBytes o) (toBytes z) flash) memory (omega (arith, long, fits .1, m .memory-sized .whole))
     where
-      p : Passed setup s registers (length flash) (length memory)
-      p = passed setup s registers (length flash) (length memory) (accepted setup s registers flash memory ok)
-
       m : Measured (length flash) (length memory) s
-      m = measured setup (length flash) (length memory) s (p .sounds)
+      m = measured setup (length flash) (length memory) s (argued .sounds)
 
       o : ℕ
       o = number 2 0 registers
@@ -173,7 +185,7 @@ module _ (setup : Setup) (s : Session) (registers flash memory : List ℕ) (c : 
       fits : (o + z ≤ roundUp (length flash)) × (z ≤ roundUp (length memory))
       fits =
           size-fits (roundUp (length flash)) (roundUp (length memory)) o (hint s registers)
-          (create-argument s registers (roundUp (length flash)) (p .argued) 6 (inr refl) c)
+          (leb-false (roundUp (length flash)) (number 2 0 registers) (argued .argued))
 
       long : length (range (toBytes o) (toBytes z) flash) ≡ toBytes z
       long = range-length (toBytes o) (toBytes z) flash (omega (arith, fits .0, m .flash-sized .whole))
@@ -212,14 +224,7 @@ module _ (setup : Setup) (first size long : ℕ) (flash : List ℕ) (room : toBy
 
   module _ (m : Machine) (o : Open first size long flash m) (registers : List ℕ) (k : ℕ) (is : commandOf registers ≡ k) (w : (k ≡ 7) ⊎ (k ≡ 10)) where
     abbrev left : Reason → Machine
-    left r = answerTo r setup registers m .machine
-
-    not-create : isCreate registers ≡ false
-    not-create =
-        ⊎-elim
-        (λ (e : k ≡ 7). rw (is ∙ e))
-        (λ (e : k ≡ 10). rw (is ∙ e))
-        w
+    left r = answerTo r (commandIn registers) setup registers m .machine
 
     refused-same : Open first size long flash (numberedIn registers m)
     refused-same = kept-open m o (numbered (m .session) registers) refl refl refl refl refl (m .memory) refl
@@ -228,32 +233,44 @@ module _ (setup : Setup) (first size long : ℕ) (flash : List ℕ) (room : toBy
         → Open first size long flash (lent (marked mark (numbered (m .session) registers) registers) (m .flash) memory)
     marked-same mark memory l = kept-open m o (marked mark (numbered (m .session) registers) registers) refl refl refl refl refl memory l
 
-    accepted-open : reasonFor setup (m .session) registers (length (m .flash)) (length (m .memory)) ≡ Accepted → Open first size long flash (left Accepted)
-    unfolding answerTo served
+    -- a command that marks, by its row
+    named : (known : Bool) → reasonFor (soundIn setup m) (m .session) registers known WriteWindow (not (blocksNamed (m .session) registers .inside)) ≡ Accepted
+        → length (erased (toBytes (blocksNamed (m .session) registers .start)) (toBytes (blocksNamed (m .session) registers .count)) (m .memory)) ≡ length (m .memory)
+    named known a =
+        let p = passed (soundIn setup m) (m .session) registers known WriteWindow (not (blocksNamed (m .session) registers .inside)) a in
+        let z = measured setup (length (m .flash)) (length (m .memory)) (m .session) (p .sounds) in
+        let n = named-within (m .session) registers (not-false (blocksNamed (m .session) registers .inside) (p .argued)) in
+        erased-length (toBytes (blocksNamed (m .session) registers .start)) (toBytes (blocksNamed (m .session) registers .count)) (m .memory)
+        (omega (arith, n, z .fits .in-memory, z .memory-sized .whole))
+
+    accepted-open : reasonIn setup registers m ≡ Accepted → Open first size long flash (left Accepted)
+    unfolding answerTo commandAt
     accepted-open a =
         ⊎-elim
         (λ (e : k ≡ 7).
-        subst (λ (c : ℕ). Open first size long flash (served c setup registers (numberedIn registers m) .machine)) (sym (is ∙ e))
+        subst (λ (n : ℕ). Open first size long flash (commandAt n .leaves setup registers (numberedIn registers m) .machine)) (sym (is ∙ e))
         (marked-same dirty (m .memory) refl))
         (λ (e : k ≡ 10).
-        subst (λ (c : ℕ). Open first size long flash (served c setup registers (numberedIn registers m) .machine)) (sym (is ∙ e))
-        (marked-same erasedMark (erased (toBytes (blocksNamed (m .session) registers .start)) (toBytes (blocksNamed (m .session) registers .count)) (m .memory)) (same (inr e))))
+        let row = ap (λ (n : ℕ). reasonOf (commandAt n) (soundIn setup m) registers m) (sym (is ∙ e)) ∙ a in
+        subst (λ (n : ℕ). Open first size long flash (commandAt n .leaves setup registers (numberedIn registers m) .machine)) (sym (is ∙ e))
+        (marked-same erasedMark (erased (toBytes (blocksNamed (m .session) registers .start)) (toBytes (blocksNamed (m .session) registers .count)) (m .memory)) (named (from 2 (m .session .version)) row)))
+        w
+
+    broken-open : Open first size long flash (left Argument)
+    unfolding answerTo commandAt
+    broken-open =
+        ⊎-elim
+        (λ (e : k ≡ 7). broken-at 7 (is ∙ e) refused-same)
+        (λ (e : k ≡ 10). broken-at 10 (is ∙ e) refused-same)
         w
       where
-        p : Passed setup (m .session) registers (length (m .flash)) (length (m .memory))
-        p = passed setup (m .session) registers (length (m .flash)) (length (m .memory)) a
+        broken-at : (n : ℕ) → commandOf registers ≡ n
+            → Open first size long flash (commandAt n .whenBroken (codeFor (m .session .version) Argument) registers (numberedIn registers m) .machine)
+            → Open first size long flash (commandAt (commandOf registers) .whenBroken (codeFor (m .session .version) Argument) registers (numberedIn registers m) .machine)
+        broken-at n e o =
+            subst (λ (q : ℕ). Open first size long flash (commandAt q .whenBroken (codeFor (m .session .version) Argument) registers (numberedIn registers m) .machine)) (sym e) o
 
-        z : Measured (length (m .flash)) (length (m .memory)) (m .session)
-        z = measured setup (length (m .flash)) (length (m .memory)) (m .session) (p .sounds)
-
-        same : (k ≡ 7) ⊎ (k ≡ 10)
-            → length (erased (toBytes (blocksNamed (m .session) registers .start)) (toBytes (blocksNamed (m .session) registers .count)) (m .memory)) ≡ length (m .memory)
-        same q =
-            let n = named-within (m .session) registers (mark-argument (m .session) registers (roundUp (length (m .flash))) (p .argued) k q is) in
-            erased-length (toBytes (blocksNamed (m .session) registers .start)) (toBytes (blocksNamed (m .session) registers .count)) (m .memory)
-            (omega (arith, n, z .fits .in-memory, z .memory-sized .whole))
-
-    answered-open : (r : Reason) → reasonFor setup (m .session) registers (length (m .flash)) (length (m .memory)) ≡ r → Open first size long flash (left r)
+    answered-open : (r : Reason) → reasonIn setup registers m ≡ r → Open first size long flash (left r)
     unfolding answerTo
     answered-open Accepted e = accepted-open e
     answered-open System e = o
@@ -261,16 +278,13 @@ module _ (setup : Setup) (first size long : ℕ) (flash : List ℕ) (room : toBy
     answered-open Unknown e = refused-same
     answered-open Suspended e = refused-same
     answered-open Windowless e = refused-same
-    answered-open Argument e =
-        subst (λ (t : Bool). Open first size long flash (cond t
-        (closing (codeFor (m .session .version) Argument) registers (numberedIn registers m))
-        (refused (codeFor (m .session .version) Argument) registers (numberedIn registers m)) .machine)) (sym not-create) refused-same
+    answered-open Argument e = broken-open
 
     sent-open : Open first size long flash (sent setup registers m)
     sent-open =
         subst (λ (x : Outcome). Open first size long flash (x .machine))
-        (sym (mediate-as setup registers m (reasonFor setup (m .session) registers (length (m .flash)) (length (m .memory))) refl))
-        (answered-open (reasonFor setup (m .session) registers (length (m .flash)) (length (m .memory))) refl)
+        (sym (mediate-as setup registers m (reasonIn setup registers m) refl))
+        (answered-open (reasonIn setup registers m) refl)
 
   call-open : (call : Call) → Allowed size call → (m : Machine) → Open first size long flash m → Open first size long flash (called setup call m)
   call-open (send registers) w m o = sent-open m o registers (commandOf registers) refl w

@@ -14,6 +14,7 @@ use Rattle.session.specs.Machine.{Setup, Machine}
 use Rattle.session.specs.Marks.{dirty, erasedMark}
 use Rattle.soundness.specs.Soundness.{soundIn}
 use Rattle.registers.specs.Registers.{bytesOf}
+use Rattle.mailbox.specs.Table as table
 use Rattle.recovery.specs.Cut.{Event, cut}
 use Rattle.recovery.specs.Second.{Call, send, write, Way, bySteps, byFlush, SecondRun}
 
@@ -23,18 +24,18 @@ command code sequence first second = code ∷ sequence ∷ (bytesOf 2 first ++ (
 
 -- "the host agrees version 2": GET_INFO
 abbrev pub getInfo : List ℕ
-getInfo = command 2 0 2 0
+getInfo = command (table.getInfo .code) 0 2 0
 
 -- "opens a write window at the same first block with the same size": CREATE_WRITE_WINDOW, the size as its hint
 abbrev pub reopen : Session → List ℕ
-reopen s = command 6 1 (s .first) (s .size)
+reopen s = command (table.createWriteWindow .code) 1 (s .first) (s .size)
 
 -- MARK_DIRTY and ERASE of window block b alone; the numbers rise, so that none is the previous one
 abbrev pub markDirty : ℕ → List ℕ
-markDirty b = command 7 (2 + b) b 1
+markDirty b = command (table.markDirty .code) (2 + b) b 1
 
 abbrev pub markErased : ℕ → List ℕ
-markErased b = command 10 (2 + b) b 1
+markErased b = command (table.erase .code) (2 + b) b 1
 
 -- "all 4,096 bytes" of window block b, as they were
 unfoldable pub former : List ℕ → ℕ → List ℕ
@@ -57,7 +58,7 @@ recipe s memory = restoredFrom memory 0 (s .marks)
 
 -- FLUSH, if the flush is not done by steps; its number comes after those of the 64 blocks
 abbrev pub flushAll : List ℕ
-flushAll = command 8 66 0 0
+flushAll = command (table.flush .code) 66 0 0
 
 -- a second run that is this recovery, on a machine that was found with some other window memory
 pub record ByRecipe (setup : Setup) (m : Machine) (flash other : List ℕ) (way : Way) : Type 0 where

@@ -14,6 +14,7 @@ use Rattle.session.specs.Record.{fresh}
 use Rattle.session.specs.Suspension.{resumed}
 use Rattle.registers.specs.Registers.{commandOf}
 use Rattle.mailbox.specs.Commands.{flushing}
+use Rattle.mailbox.specs.Table.{getInfo, createWriteWindow, markDirty, flush, erase}
 use Rattle.mailbox.specs.Mediator.{mediate}
 use Rattle.recovery.specs.Cut.{stepped, step, afterAll, answers, actionsOf, start}
 
@@ -31,7 +32,7 @@ pub data Call : Type 0 where
   write : ℕ → List ℕ → Call
 
 abbrev pub Allowed : ℕ → Call → Type 0
-Allowed size (send registers) = (commandOf registers ≡ 7) ⊎ (commandOf registers ≡ 10)
+Allowed size (send registers) = (commandOf registers ≡ markDirty .code) ⊎ (commandOf registers ≡ erase .code)
 Allowed size (write at bytes) = at + length bytes ≤ toBytes size
 
 abbrev pub AllAllowed : ℕ → List Call → Type 0
@@ -54,7 +55,7 @@ pub data Way : Type 0 where
 
 abbrev pub Succeeds : Setup → Way → Machine → Type 0
 Succeeds setup bySteps m = Unit
-Succeeds setup (byFlush registers) m = (commandOf registers ≡ 8) × (response setup registers m ≡ 1)
+Succeeds setup (byFlush registers) m = (commandOf registers ≡ flush .code) × (response setup registers m ≡ 1)
 
 -- every one of the N steps answers 1 with yes
 abbrev pub StepsSucceed : Machine → Type 0
@@ -91,12 +92,12 @@ pub record SecondRun (setup : Setup) (m : Machine) (flash : List ℕ) : Type 0 w
   pub other-size : length other ≡ length (m .memory)
   -- GET_INFO
   pub info : List ℕ
-  pub info-is : commandOf info ≡ 2
+  pub info-is : commandOf info ≡ getInfo .code
   pub info-succeeds : response setup info (begun flash other) ≡ 1
   pub agreed : agreeing setup info flash other .session .version ≡ 2
   -- CREATE_WRITE_WINDOW
   pub create : List ℕ
-  pub create-is : commandOf create ≡ 6
+  pub create-is : commandOf create ≡ createWriteWindow .code
   pub create-succeeds : response setup create (agreeing setup info flash other) ≡ 1
   pub same-first : opening setup info create flash other .session .first ≡ m .session .first
   pub same-size : opening setup info create flash other .session .size ≡ m .session .size

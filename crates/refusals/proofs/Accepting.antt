@@ -1,13 +1,12 @@
 -- What a command that no check refused tells, and what its arguments then name.
-use mathlib.Core.Path.{_≡_, refl, _∙_}
-use mathlib.Core.Bool.{Bool, true, false, cond, not, _&&_, false≢true}
+use mathlib.Core.Path.{_≡_, refl, ap}
+use mathlib.Core.Bool.{Bool, true, false, cond, not, _&&_}
 use mathlib.Core.List.{List}
-use mathlib.Core.Logic.{_⊎_, ⊎-elim}
-use Prim.Native.Nat.{ℕ, _+_, _-_, _≤_, _<_}
-use native.Mathlib.Nat.{le-antisymm}
+use mathlib.Core.Logic.{⊎-elim}
+use Prim.Native.Nat.{ℕ, _+_, _-_, _≤_}
 use native.Mathlib.Omega.{arith}
-use lib.Dec.{leb, ltb, eqb}
-use borrow.Author.Tests.{leb-true, leb-false, ne-eqb, not-false}
+use lib.Dec.{leb, ltb}
+use borrow.Author.Tests.{leb-true, not-false}
 use Rattle.units.proofs.Cases.{decided, both}
 use Rattle.units.specs.Units.{roundUp}
 use Rattle.session.specs.declared.Session.{Session}
@@ -16,37 +15,38 @@ use Rattle.soundness.specs.Soundness.{sound, soundAt}
 use Rattle.soundness.proofs.Facts.{Sized, sized, sizes, Fitting, fitting}
 use Rattle.refusals.specs.declared.Reason.{Reason}
 use Rattle.refusals.specs.declared.Reason.the-variants.{Accepted, System, Repeated, Unknown, Suspended, Windowless, Argument}
-use Rattle.registers.specs.Registers.{commandOf, number}
-use Rattle.refusals.specs.Refusals.{blocksNamed, flushMarks, argumentBroken, repeated, known, suspendedFor, windowless, reasonFor}
+use Rattle.refusals.specs.declared.Needs.{Needs}
+use Rattle.registers.specs.Registers.{sequenceOf, number}
+use Rattle.refusals.specs.Refusals.{blocksNamed, isPrevious, isWrite, needsNumber, needsAccess, needsWindow, reasonFor}
 
 -- every check of the table has passed
-pub record Passed (setup : Setup) (s : Session) (registers : List ℕ) (flash memory : ℕ) : Type 0 where
-  pub sounds : soundAt setup flash memory s ≡ true
-  pub fresh : repeated s registers ≡ false
-  pub knows : known (s .version) (commandOf registers) ≡ true
-  pub awake : suspendedFor s registers ≡ false
-  pub windowed : windowless s registers ≡ false
-  pub argued : argumentBroken s registers (roundUp flash) ≡ false
+pub record Passed (sound : Bool) (s : Session) (registers : List ℕ) (known : Bool) (needs : Needs) (broken : Bool) : Type 0 where
+  pub sounds : sound ≡ true
+  pub fresh : (needsNumber needs && isPrevious (s .previous) (sequenceOf registers)) ≡ false
+  pub knows : known ≡ true
+  pub awake : (needsAccess needs && s .suspended) ≡ false
+  pub windowed : (needsWindow needs && not (isWrite (s .window))) ≡ false
+  pub argued : broken ≡ false
 
 -- one row of the table
 row : (t : Bool) (r rest : Reason) → (r ≡ Accepted → ⊥) → cond t r rest ≡ Accepted → (t ≡ false) × (rest ≡ Accepted)
 row true r rest n e = absurd (n e)
 row false r rest n e = (refl, e)
 
-pub passed : (setup : Setup) (s : Session) (registers : List ℕ) (flash memory : ℕ) → reasonFor setup s registers flash memory ≡ Accepted
-    → Passed setup s registers flash memory
+pub passed : (sound : Bool) (s : Session) (registers : List ℕ) (known : Bool) (needs : Needs) (broken : Bool)
+    → reasonFor sound s registers known needs broken ≡ Accepted → Passed sound s registers known needs broken
 unfolding reasonFor
-passed setup s registers flash memory e =
-    let a = row (not (soundAt setup flash memory s)) System _ (λ q. no-system q) e in
-    let b = row (repeated s registers) Repeated _ (λ q. no-repeated q) (a .1) in
-    let c = row (not (known (s .version) (commandOf registers))) Unknown _ (λ q. no-unknown q) (b .1) in
-    let d = row (suspendedFor s registers) Suspended _ (λ q. no-suspended q) (c .1) in
-    let f = row (windowless s registers) Windowless _ (λ q. no-windowless q) (d .1) in
-    let g = row (argumentBroken s registers (roundUp flash)) Argument Accepted (λ q. no-argument q) (f .1) in
+passed sound s registers known needs broken e =
+    let a = row (not sound) System _ (λ q. no-system q) e in
+    let b = row (needsNumber needs && isPrevious (s .previous) (sequenceOf registers)) Repeated _ (λ q. no-repeated q) (a .1) in
+    let c = row (not known) Unknown _ (λ q. no-unknown q) (b .1) in
+    let d = row (needsAccess needs && s .suspended) Suspended _ (λ q. no-suspended q) (c .1) in
+    let f = row (needsWindow needs && not (isWrite (s .window))) Windowless _ (λ q. no-windowless q) (d .1) in
+    let g = row broken Argument Accepted (λ q. no-argument q) (f .1) in
     record {
-      sounds = not-false (soundAt setup flash memory s) (a .0);
+      sounds = not-false sound (a .0);
       fresh = b .0;
-      knows = not-false (known (s .version) (commandOf registers)) (c .0);
+      knows = not-false known (c .0);
       awake = d .0;
       windowed = f .0;
       argued = g .0;
@@ -69,6 +69,27 @@ passed setup s registers flash memory e =
 
     no-argument : Argument ≡ Accepted → ⊥
     no-argument q = let z : _≡_ {A = ℕ} 0 1 = cc in omega arith
+
+-- and the other way round
+pub accepts : (sound : Bool) (s : Session) (registers : List ℕ) (known : Bool) (needs : Needs) (broken : Bool)
+    → Passed sound s registers known needs broken → reasonFor sound s registers known needs broken ≡ Accepted
+unfolding reasonFor
+accepts sound s registers known needs broken p = rw (p .sounds, p .fresh, p .knows, p .awake, p .windowed, p .argued)
+
+-- SYSTEM_ERROR is the first check's alone
+pub no-system : (s : Session) (registers : List ℕ) (known : Bool) (needs : Needs) (broken : Bool) → reasonFor true s registers known needs broken ≡ System → ⊥
+unfolding reasonFor
+no-system s registers known needs broken e =
+    past (needsNumber needs && isPrevious (s .previous) (sequenceOf registers)) Repeated _ (λ q. let z : _≡_ {A = ℕ} 0 1 = cc in omega arith)
+    (past (not known) Unknown _ (λ q. let z : _≡_ {A = ℕ} 0 1 = cc in omega arith)
+    (past (needsAccess needs && s .suspended) Suspended _ (λ q. let z : _≡_ {A = ℕ} 0 1 = cc in omega arith)
+    (past (needsWindow needs && not (isWrite (s .window))) Windowless _ (λ q. let z : _≡_ {A = ℕ} 0 1 = cc in omega arith)
+    (past broken Argument Accepted (λ q. let z : _≡_ {A = ℕ} 0 1 = cc in omega arith) (λ q. let z : _≡_ {A = ℕ} 0 1 = cc in omega arith)))))
+    e
+  where
+    past : (t : Bool) (r rest : Reason) → (r ≡ System → ⊥) → (rest ≡ System → ⊥) → cond t r rest ≡ System → ⊥
+    past true r rest n m q = n q
+    past false r rest n m q = m q
 
 -- ---- the sizes
 pub record Measured (flash memory : ℕ) (s : Session) : Type 0 where
@@ -106,45 +127,3 @@ named-within s registers e =
       where
         sums : (f a k z : ℕ) → f ≤ a → a + k ≤ f + z → a - f + k ≤ z
         sums f a k z p q = omega arith
-
--- ---- the argument rule of each command that has one
-module _ (s : Session) (registers : List ℕ) (S : ℕ) (h : argumentBroken s registers S ≡ false) where
-  pub create-argument : (c : ℕ) → (c ≡ 4) ⊎ (c ≡ 6) → commandOf registers ≡ c → number 2 0 registers < S
-  create-argument c o e =
-      ⊎-elim
-      (λ (q : c ≡ 4). leb-false S (number 2 0 registers) (rw (e ∙ q) at h))
-      (λ (q : c ≡ 6). leb-false S (number 2 0 registers) (rw (e ∙ q) at h))
-      o
-
-  pub mark-argument : (c : ℕ) → (c ≡ 7) ⊎ (c ≡ 10) → commandOf registers ≡ c → blocksNamed s registers .inside ≡ true
-  mark-argument c o e =
-      ⊎-elim
-      (λ (q : c ≡ 7). not-false (blocksNamed s registers .inside) (rw (e ∙ q) at h))
-      (λ (q : c ≡ 10). not-false (blocksNamed s registers .inside) (rw (e ∙ q) at h))
-      o
-
-  pub flush-argument : commandOf registers ≡ 8 → flushMarks s registers ≡ true → blocksNamed s registers .inside ≡ true
-  flush-argument e m = not-false (blocksNamed s registers .inside) (rw m at (rw e at h))
-
-past : (command n : ℕ) → (command ≡ n → ⊥) → n ≤ command → n + 1 ≤ command
-past command n d l = omega arith
-
--- the last code that version 2 knows
-pub last-known : (version command : ℕ) → known version command ≡ true
-    → (command ≡ 1 → ⊥) → (command ≡ 2 → ⊥) → (command ≡ 3 → ⊥) → (command ≡ 4 → ⊥) → (command ≡ 5 → ⊥) → (command ≡ 6 → ⊥)
-    → (command ≡ 7 → ⊥) → (command ≡ 8 → ⊥) → (command ≡ 9 → ⊥) → command ≡ 10
-last-known version command k n1 n2 n3 n4 n5 n6 n7 n8 n9 =
-    ⊎-elim
-    (λ (z : eqb version 0 ≡ true).
-    absurd (false≢true (rw (z, ne-eqb command 1 n1, ne-eqb command 2 n2, ne-eqb command 9 n9) at k)))
-    (λ (z : eqb version 0 ≡ false).
-    let p = both (leb 1 command) (leb command (cond (eqb version 1) 9 10)) (rw z at k) in
-    let low = past command 9 n9 (past command 8 n8 (past command 7 n7 (past command 6 n6 (past command 5 n5 (past command 4 n4 (past command 3 n3 (past command 2 n2 (past command 1 n1 (leb-true 1 command (p .0)))))))))) in
-    ⊎-elim
-    (λ (o : eqb version 1 ≡ true). absurd (over low (leb-true command 9 (rw o at (p .1)))))
-    (λ (o : eqb version 1 ≡ false). le-antisymm (leb-true command 10 (rw o at (p .1))) low)
-    (decided (eqb version 1)))
-    (decided (eqb version 0))
-  where
-    over : 10 ≤ command → command ≤ 9 → ⊥
-    over l h = omega arith

@@ -1,21 +1,20 @@
 -- When a command is refused, and with which code: document 01, the table of "Registers", and the argument rules of "Commands".
 use Prim.Native.Nat.{ℕ, _+_, _-_}
-use mathlib.Core.Bool.{Bool, true, false, cond, not, _&&_, _||_}
+use mathlib.Core.Bool.{Bool, true, false, cond, not, _&&_}
 use mathlib.Core.List.{List, [], _∷_}
 use lib.Dec.{leb, ltb, eqb}
-use lib.ListN.{length}
 use Rattle.units.specs.Units.{roundUp}
 use Rattle.session.specs.declared.Session.{Session}
 use Rattle.session.specs.declared.Window.{Window}
 use Rattle.session.specs.declared.Window.the-variants.{Closed, Read, Write}
 use Rattle.session.specs.declared.Previous.{Previous}
 use Rattle.session.specs.declared.Previous.the-variants.{Absent, Number}
-use Rattle.session.specs.Machine.{Setup, Machine}
-use Rattle.soundness.specs.Soundness.{soundAt}
 use Rattle.refusals.specs.declared.Reason.{Reason}
 use Rattle.refusals.specs.declared.Reason.the-variants.{Accepted, System, Repeated, Unknown, Suspended, Windowless, Argument}
+use Rattle.refusals.specs.declared.Needs.{Needs}
+use Rattle.refusals.specs.declared.Needs.the-variants.{Nothing, NewNumber, Access, WriteWindow}
 use Rattle.refusals.specs.declared.BlockRange.{BlockRange}
-use Rattle.registers.specs.Registers.{commandOf, sequenceOf, argument, number}
+use Rattle.registers.specs.Registers.{sequenceOf, argument, number}
 
 -- ---- the argument rules
 
@@ -41,58 +40,79 @@ blocksNamed s registers =
 abbrev pub flushMarks : Session → List ℕ → Bool
 flushMarks s registers = ltb (s .version) 2 && not (eqb (number 4 2 registers) 0)
 
--- "an argument rule below is broken"
-abbrev pub argumentBroken : Session → List ℕ → ℕ → Bool
-argumentBroken s registers S =
-    cond (eqb (commandOf registers) 2) (eqb (argument 0 registers) 0)
-    (cond (eqb (commandOf registers) 4 || eqb (commandOf registers) 6) (leb S (number 2 0 registers))
-    (cond (eqb (commandOf registers) 7 || eqb (commandOf registers) 10) (not (blocksNamed s registers .inside))
-    (cond (eqb (commandOf registers) 8) (flushMarks s registers && not (blocksNamed s registers .inside)) false)))
+-- the rules, each of the session, the registers and S: whether the argument breaks it. A command without one
+abbrev pub anyArguments : Session → List ℕ → ℕ → Bool
+anyArguments s registers S = false
 
--- ---- the rows of the table
+-- GET_INFO: "argument 0 is the host's highest version r. r = 0 is refused"
+abbrev pub noVersion : Session → List ℕ → ℕ → Bool
+noVersion s registers S = eqb (argument 0 registers) 0
 
--- "the sequence equals the previous one, not GET_INFO"
+-- a create: "arguments 0-1 flash block o", and "o >= S is refused"
+abbrev pub outsideFlash : Session → List ℕ → ℕ → Bool
+outsideFlash s registers S = leb S (number 2 0 registers)
+
+-- MARK_DIRTY and ERASE: the blocks must lie in the window
+abbrev pub outsideWindow : Session → List ℕ → ℕ → Bool
+outsideWindow s registers S = not (blocksNamed s registers .inside)
+
+-- FLUSH: so must those that it marks
+abbrev pub flushOutside : Session → List ℕ → ℕ → Bool
+flushOutside s registers S = flushMarks s registers && outsideWindow s registers S
+
+-- ---- what the checks look at
+
+-- "the sequence equals the previous one"
 abbrev pub isPrevious : Previous → ℕ → Bool
 isPrevious Absent n = false
 isPrevious (Number previous) n = eqb n previous
 
-abbrev pub repeated : Session → List ℕ → Bool
-repeated s registers = not (eqb (commandOf registers) 2) && isPrevious (s .previous) (sequenceOf registers)
-
--- "Version 0 knows 1, 2 and 9; version 1 knows 1 to 9; version 2 knows 1 to 10"
-abbrev pub known : ℕ → ℕ → Bool
-known version command =
-    cond (eqb version 0) (eqb command 1 || (eqb command 2 || eqb command 9))
-    (leb 1 command && leb command (cond (eqb version 1) 9 10))
-
--- "suspended and not GET_INFO or ACK"
-abbrev pub suspendedFor : Session → List ℕ → Bool
-suspendedFor s registers = s .suspended && not (eqb (commandOf registers) 2 || eqb (commandOf registers) 9)
-
--- "MARK_DIRTY, ERASE or FLUSH without an active write window"
+-- "an active write window"
 abbrev pub isWrite : Window → Bool
 isWrite Closed = false
 isWrite Read = false
 isWrite Write = true
 
-abbrev pub windowless : Session → List ℕ → Bool
-windowless s registers =
-    (eqb (commandOf registers) 7 || (eqb (commandOf registers) 8 || eqb (commandOf registers) 10)) && not (isWrite (s .window))
+-- ---- what a command needs, each more than the one before
+
+-- "the sequence equals the previous one, not GET_INFO"
+abbrev pub needsNumber : Needs → Bool
+needsNumber Nothing = false
+needsNumber NewNumber = true
+needsNumber Access = true
+needsNumber WriteWindow = true
+
+-- "suspended and not GET_INFO or ACK"
+abbrev pub needsAccess : Needs → Bool
+needsAccess Nothing = false
+needsAccess NewNumber = false
+needsAccess Access = true
+needsAccess WriteWindow = true
+
+-- "MARK_DIRTY, ERASE or FLUSH without an active write window"
+abbrev pub needsWindow : Needs → Bool
+needsWindow Nothing = false
+needsWindow NewNumber = false
+needsWindow Access = false
+needsWindow WriteWindow = true
+
+-- ---- the table
 
 -- a row of the table: the test, and what it means if no earlier one holds
 pub record Row : Type 0 where
   pub test : Bool
   pub reason : Reason
 
--- the table, "exactly when (and no earlier check refused)"; the flash and the window memory are given by their lengths in bytes
-abbrev pub table : Setup → Session → List ℕ → ℕ → ℕ → List Row
-table setup s registers flash memory =
-    record { test = not (soundAt setup flash memory s); reason = System }
-    ∷ record { test = repeated s registers; reason = Repeated }
-    ∷ record { test = not (known (s .version) (commandOf registers)); reason = Unknown }
-    ∷ record { test = suspendedFor s registers; reason = Suspended }
-    ∷ record { test = windowless s registers; reason = Windowless }
-    ∷ record { test = argumentBroken s registers (roundUp flash); reason = Argument }
+-- the table, "exactly when (and no earlier check refused)": whether the lent sizes, B and the session keep the numbers, and of the command
+-- whether its version knows it, what it needs and whether its argument rule is broken
+abbrev pub table : Bool → Session → List ℕ → Bool → Needs → Bool → List Row
+table sound s registers known needs broken =
+    record { test = not sound; reason = System }
+    ∷ record { test = needsNumber needs && isPrevious (s .previous) (sequenceOf registers); reason = Repeated }
+    ∷ record { test = not known; reason = Unknown }
+    ∷ record { test = needsAccess needs && s .suspended; reason = Suspended }
+    ∷ record { test = needsWindow needs && not (isWrite (s .window)); reason = Windowless }
+    ∷ record { test = broken; reason = Argument }
     ∷ []
 
 -- the first row that holds
@@ -100,12 +120,8 @@ abbrev pub firstOf : List Row → Reason
 firstOf [] = Accepted
 firstOf (row ∷ rows) = cond (row .test) (row .reason) (firstOf rows)
 
-unfoldable pub reasonFor : Setup → Session → List ℕ → ℕ → ℕ → Reason
-reasonFor setup s registers flash memory = firstOf (table setup s registers flash memory)
-
--- the same, of what a call is given
-abbrev pub reasonIn : Setup → List ℕ → Machine → Reason
-reasonIn setup registers m = reasonFor setup (m .session) registers (length (m .flash)) (length (m .memory))
+unfoldable pub reasonFor : Bool → Session → List ℕ → Bool → Needs → Bool → Reason
+reasonFor sound s registers known needs broken = firstOf (table sound s registers known needs broken)
 
 -- the codes: 4 SYSTEM_ERROR, 8 SEQ_ERROR, 2 PARAM_ERROR, 6 BUSY, 7 WINDOW_ERROR, 1 SUCCESS; at versions 0 and 1
 -- code 2 stands for 8 and 5 for 6, at version 1 code 2 for 7 (version 0 does not know those commands)

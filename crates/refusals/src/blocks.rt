@@ -6,7 +6,7 @@ use session::Session;
 use units::Blocks;
 use units::Bytes;
 ghost use mathlib.Core.Path.{_≡_};
-ghost use mathlib.Core.Bool.{_&&_};
+ghost use mathlib.Core.Bool.{not, _&&_};
 ghost use Prim.Native.Nat.{_+_, _-_, _<_, _≤_};
 ghost use lib.Dec.{leb};
 ghost use Rattle.refusals.specs.Refusals.{blocksNamed, flushMarks};
@@ -34,6 +34,17 @@ pub fn blocks_named(session: Session, registers: [u8; 16]) -> BlockRange
         flash_blocks(Blocks(session.first as u32), size, named, count)
     } else {
         window_blocks(size, named, Blocks(words.second as u32))
+    }
+}
+
+// A FLUSH adds marks, and their blocks do not all lie in the window.
+pub fn flush_outside(session: Session, registers: [u8; 16]) -> bool
+    ensures { λ r. ⌜ r ≡ (flushMarks session registers && not (blocksNamed session registers .inside)) ⌝ }
+{
+    if flush_marks(session, registers) {
+        !blocks_named(session, registers).inside
+    } else {
+        false
     }
 }
 

@@ -1,11 +1,13 @@
 // Whether a mailbox command is refused, for which reason and with which code, and the blocks that it names.
 //
-// Every content of the registers, every session record and every buffer length gets an answer.
+// No check asks which command it is: a command says what it needs. Every content of the registers and every
+// session record gets an answer.
 mod blocks;
 mod checks;
 
 pub use blocks::blocks_named;
 pub use blocks::flush_marks;
+pub use blocks::flush_outside;
 pub use checks::code_for;
 pub use checks::reason_for;
 
@@ -18,6 +20,15 @@ pub enum Reason {
     Suspended,
     Windowless,
     Argument,
+}
+
+// What a command needs, each more than the one before: nothing, a sequence number that is not the previous one,
+// access to the flash, an active write window.
+pub enum Needs {
+    Nothing,
+    NewNumber,
+    Access,
+    WriteWindow,
 }
 
 // The window's blocks that the arguments name, and whether all of them lie in it.

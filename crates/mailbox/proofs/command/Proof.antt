@@ -1,112 +1,156 @@
--- `mailbox::command` meets its contract: each arm is what `answerTo` says of its reason.
-use mathlib.Core.Path.{sym, ap, _∙_}
-use mathlib.Core.List.{[]}
+-- `mailbox::command` meets its contract.
+use mathlib.Core.Path.{refl, sym, ap, _∙_}
 use borrow.Author.Needs.{needs}
+use borrow.Author.Tests.{not-true, not-false}
 use Rattle.session.specs.Machine.{setUp, lent}
-use Rattle.refusals.specs.declared.Reason.{Reason}
-use Rattle.refusals.specs.declared.Reason.the-variants.{Accepted, System, Repeated, Unknown, Suspended, Windowless, Argument}
-use Rattle.refusals.specs.Refusals.{codeFor}
-use Rattle.mailbox.specs.Commands.{leaving, answered, numbered}
-use Rattle.mailbox.specs.Mediator.{answerTo}
+use Rattle.registers.specs.Registers.{commandOf}
 use Rattle.mailbox.specs.declared.Answer.{Answer}
-use Rattle.mailbox.proofs.Mediating.{mediate-as}
+use Rattle.mailbox.specs.Commands.{leaving}
+use Rattle.mailbox.specs.Mediator.{commandAt}
+use Rattle.mailbox.proofs.Mediating.{unsound-as, row-at, past-table, unknown-at, call-fits}
 use Rattle.mailbox.proofs.command.Statement.{statement}
 use Rattle.mailbox.proofs.command.Tie as tie
 
-reason-for-requires : tie.Need-reason-for-requires
-reason-for-requires c κs = search needs
+is-sound-at-requires : tie.Need-is-sound-at-requires
+is-sound-at-requires c κs = search needs
 
-enum-told : tie.Need-enum-told
-enum-told c = search needs
+answer-requires : tie.Need-answer-requires
+answer-requires c κs = search needs
 
-serve-requires : tie.Need-serve-requires
-serve-requires c κs =
-    sym (c .before .before .before .before .reason-for .ensures) ∙ c .before .before .enum-told .given .1
+returns : tie.Need-returns
+returns c =
+    let checked = c .before in
+    let a = checked .before .before .before .before .args in
+    let m = lent (a .session) (a .flash .now) (a .memory .now) in
+    ap (λ (r : Answer). leaving r m) (c .answer .ensures)
+    ∙ sym (unsound-as (setUp (a .board)) (a .t2) m (sym (checked .before .is-sound-at .ensures) ∙ not-true _ (checked .if1 .taken)))
 
-enum-told-2 : tie.Need-enum-told-2
-enum-told-2 c = search needs
+array-read-code : tie.Need-array-read-code
+array-read-code c = search needs
 
-refuse-requires : tie.Need-refuse-requires
-refuse-requires c κs = search needs
+unknown-requires : tie.Need-unknown-requires
+unknown-requires c κs = search needs
 
-enum-told-3 : tie.Need-enum-told-3
-enum-told-3 c = search needs
+reset-requires : tie.Need-reset-requires
+reset-requires c κs = search needs
 
-refuse-numbered-requires : tie.Need-refuse-numbered-requires
-refuse-numbered-requires c κs = search needs
+get-info-requires : tie.Need-get-info-requires
+get-info-requires c κs =
+    let checked = c .before .before in
+    let a = checked .before .before .before .before .args in
+    let m = lent (a .session) (a .flash .now) (a .memory .now) in
+    let sound = sym (checked .before .is-sound-at .ensures) ∙ not-false _ (checked .if1 .left) in
+    let f = call-fits (setUp (a .board)) m sound in
+    f .memory-sound
 
-enum-told-4 : tie.Need-enum-told-4
-enum-told-4 c = search needs
+get-flash-info-requires : tie.Need-get-flash-info-requires
+get-flash-info-requires c κs =
+    let checked = c .before .before in
+    let a = checked .before .before .before .before .args in
+    let m = lent (a .session) (a .flash .now) (a .memory .now) in
+    let sound = sym (checked .before .is-sound-at .ensures) ∙ not-false _ (checked .if1 .left) in
+    let f = call-fits (setUp (a .board)) m sound in
+    (refl, f .flash-sound)
 
-refuse-numbered-requires-2 : tie.Need-refuse-numbered-requires-2
-refuse-numbered-requires-2 c κs = search needs
+create-read-window-requires : tie.Need-create-read-window-requires
+create-read-window-requires c κs =
+    let checked = c .before .before .before in
+    let a = checked .before .before .before .before .args in
+    let m = lent (a .session) (a .flash .now) (a .memory .now) in
+    let sound = sym (checked .before .is-sound-at .ensures) ∙ not-false _ (checked .if1 .left) in
+    let f = call-fits (setUp (a .board)) m sound in
+    (refl, f .flash-sound, f .memory-sound)
 
-enum-told-5 : tie.Need-enum-told-5
-enum-told-5 c = search needs
+close-window-requires : tie.Need-close-window-requires
+close-window-requires c κs = refl
 
-refuse-numbered-requires-3 : tie.Need-refuse-numbered-requires-3
-refuse-numbered-requires-3 c κs = search needs
+create-write-window-requires : tie.Need-create-write-window-requires
+create-write-window-requires c κs =
+    let checked = c .before .before .before in
+    let a = checked .before .before .before .before .args in
+    let m = lent (a .session) (a .flash .now) (a .memory .now) in
+    let sound = sym (checked .before .is-sound-at .ensures) ∙ not-false _ (checked .if1 .left) in
+    let f = call-fits (setUp (a .board)) m sound in
+    (refl, f .flash-sound, f .memory-sound)
 
-enum-told-6 : tie.Need-enum-told-6
-enum-told-6 c = search needs
+mark-dirty-requires : tie.Need-mark-dirty-requires
+mark-dirty-requires c κs =
+    let checked = c .before in
+    let a = checked .before .before .before .before .args in
+    let m = lent (a .session) (a .flash .now) (a .memory .now) in
+    let sound = sym (checked .before .is-sound-at .ensures) ∙ not-false _ (checked .if1 .left) in
+    let f = call-fits (setUp (a .board)) m sound in
+    (refl, f .few)
 
-refuse-numbered-requires-4 : tie.Need-refuse-numbered-requires-4
-refuse-numbered-requires-4 c κs = search needs
+flush-requires : tie.Need-flush-requires
+flush-requires c κs =
+    let checked = c .before .before .before in
+    let a = checked .before .before .before .before .args in
+    let m = lent (a .session) (a .flash .now) (a .memory .now) in
+    let sound = sym (checked .before .is-sound-at .ensures) ∙ not-false _ (checked .if1 .left) in
+    let f = call-fits (setUp (a .board)) m sound in
+    (refl, f .few)
 
-enum-told-7 : tie.Need-enum-told-7
-enum-told-7 c = search needs
+acknowledge-requires : tie.Need-acknowledge-requires
+acknowledge-requires c κs = search needs
 
-refuse-argument-requires : tie.Need-refuse-argument-requires
-refuse-argument-requires c κs = search needs
+erase-requires : tie.Need-erase-requires
+erase-requires c κs =
+    let checked = c .before .before in
+    let a = checked .before .before .before .before .args in
+    let m = lent (a .session) (a .flash .now) (a .memory .now) in
+    let sound = sym (checked .before .is-sound-at .ensures) ∙ not-false _ (checked .if1 .left) in
+    let f = call-fits (setUp (a .board)) m sound in
+    (refl, f .few, f .room)
+
+unknown-requires-2 : tie.Need-unknown-requires-2
+unknown-requires-2 c κs = search needs
+
+returns-2 : tie.Need-returns-2
+unfolding commandAt
+returns-2 c =
+    let checked = c .before .before in
+    let a = checked .before .before .before .before .args in
+    let m = lent (a .session) (a .flash .now) (a .memory .now) in
+    let sound = sym (checked .before .is-sound-at .ensures) ∙ not-false _ (checked .if1 .left) in
+    c .unknown .ensures (a .flash .now) (a .memory .now)
+    ∙ row-at 0 (setUp (a .board)) (a .t2) m (c .before .match .keys1) sound
+
+returns-3 : tie.Need-returns-3
+unfolding commandAt
+returns-3 c =
+    let checked = c .before .before in
+    let a = checked .before .before .before .before .args in
+    let m = lent (a .session) (a .flash .now) (a .memory .now) in
+    let sound = sym (checked .before .is-sound-at .ensures) ∙ not-false _ (checked .if1 .left) in
+    c .reset .ensures (a .flash .now) (a .memory .now)
+    ∙ row-at 1 (setUp (a .board)) (a .t2) m (c .before .match .keys2) sound
 
 same-length : tie.Need-same-length
 same-length c = search needs
 
+returns-4 : tie.Need-returns-4
+unfolding commandAt
+returns-4 c =
+    let checked = c .before .before .before in
+    let a = checked .before .before .before .before .args in
+    let m = lent (a .session) (a .flash .now) (a .memory .now) in
+    let sound = sym (checked .before .is-sound-at .ensures) ∙ not-false _ (checked .if1 .left) in
+    c .get-info .ensures (a .flash .now)
+    ∙ row-at 2 (setUp (a .board)) (a .t2) m (c .before .before .match .keys3) sound
+
 same-length-2 : tie.Need-same-length-2
 same-length-2 c = search needs
 
-returns : tie.Need-returns
-unfolding answerTo
-returns c =
-    let a = c .before .before .before .before .before .before .before .before .before .before .before .before .args in
-    let e = mediate-as (setUp (a .board)) (a .registers) (lent (a .session) (a .flash .now) (a .memory .now)) Accepted (sym (c .before .before .before .before .before .before .before .before .before .reason-for .ensures) ∙ c .before .before .before .before .before .before .before .enum-told .given .1) in
-    let call = c .before .before .before .before .serve in
-    call .ensures ∙ sym e
-
-returns-2 : tie.Need-returns-2
-unfolding answerTo
-returns-2 c =
-    let a = c .before .before .before .before .before .before .args in
-    let e = mediate-as (setUp (a .board)) (a .registers) (lent (a .session) (a .flash .now) (a .memory .now)) System (sym (c .before .before .before .reason-for .ensures) ∙ c .before .enum-told2 .given .1) in
-    ap (λ (r : Answer). leaving r (lent (a .session) (a .flash .now) (a .memory .now))) (c .refuse .ensures) ∙ sym e
-
-returns-3 : tie.Need-returns-3
-unfolding answerTo
-returns-3 c =
-    let a = c .before .before .before .before .before .before .args in
-    let e = mediate-as (setUp (a .board)) (a .registers) (lent (a .session) (a .flash .now) (a .memory .now)) Repeated (sym (c .before .before .before .reason-for .ensures) ∙ c .before .enum-told3 .given .1) in
-    ap (λ (r : Answer). leaving r (lent (a .session) (a .flash .now) (a .memory .now))) (c .refuse-numbered .ensures ∙ ap (λ (r : Reason). answered (numbered (a .session) (a .registers)) (a .registers) (codeFor (a .session .version) r) [] 0) (c .before .enum-told3 .given .1)) ∙ sym e
-
-returns-4 : tie.Need-returns-4
-unfolding answerTo
-returns-4 c =
-    let a = c .before .before .before .before .before .before .args in
-    let e = mediate-as (setUp (a .board)) (a .registers) (lent (a .session) (a .flash .now) (a .memory .now)) Unknown (sym (c .before .before .before .reason-for .ensures) ∙ c .before .enum-told4 .given .1) in
-    ap (λ (r : Answer). leaving r (lent (a .session) (a .flash .now) (a .memory .now))) (c .refuse-numbered2 .ensures ∙ ap (λ (r : Reason). answered (numbered (a .session) (a .registers)) (a .registers) (codeFor (a .session .version) r) [] 0) (c .before .enum-told4 .given .1)) ∙ sym e
-
 returns-5 : tie.Need-returns-5
-unfolding answerTo
+unfolding commandAt
 returns-5 c =
-    let a = c .before .before .before .before .before .before .args in
-    let e = mediate-as (setUp (a .board)) (a .registers) (lent (a .session) (a .flash .now) (a .memory .now)) Suspended (sym (c .before .before .before .reason-for .ensures) ∙ c .before .enum-told5 .given .1) in
-    ap (λ (r : Answer). leaving r (lent (a .session) (a .flash .now) (a .memory .now))) (c .refuse-numbered3 .ensures ∙ ap (λ (r : Reason). answered (numbered (a .session) (a .registers)) (a .registers) (codeFor (a .session .version) r) [] 0) (c .before .enum-told5 .given .1)) ∙ sym e
-
-returns-6 : tie.Need-returns-6
-unfolding answerTo
-returns-6 c =
-    let a = c .before .before .before .before .before .before .args in
-    let e = mediate-as (setUp (a .board)) (a .registers) (lent (a .session) (a .flash .now) (a .memory .now)) Windowless (sym (c .before .before .before .reason-for .ensures) ∙ c .before .enum-told6 .given .1) in
-    ap (λ (r : Answer). leaving r (lent (a .session) (a .flash .now) (a .memory .now))) (c .refuse-numbered4 .ensures ∙ ap (λ (r : Reason). answered (numbered (a .session) (a .registers)) (a .registers) (codeFor (a .session .version) r) [] 0) (c .before .enum-told6 .given .1)) ∙ sym e
+    let checked = c .before .before .before in
+    let a = checked .before .before .before .before .args in
+    let m = lent (a .session) (a .flash .now) (a .memory .now) in
+    let sound = sym (checked .before .is-sound-at .ensures) ∙ not-false _ (checked .if1 .left) in
+    c .get-flash-info .ensures (a .memory .now)
+    ∙ row-at 3 (setUp (a .board)) (a .t2) m (c .before .before .match .keys4) sound
 
 same-length-3 : tie.Need-same-length-3
 same-length-3 c = search needs
@@ -114,41 +158,147 @@ same-length-3 c = search needs
 same-length-4 : tie.Need-same-length-4
 same-length-4 c = search needs
 
+returns-6 : tie.Need-returns-6
+unfolding commandAt
+returns-6 c =
+    let checked = c .before .before .before .before .before .before .before .before in
+    let a = checked .before .before .before .before .args in
+    let m = lent (a .session) (a .flash .now) (a .memory .now) in
+    let sound = sym (checked .before .is-sound-at .ensures) ∙ not-false _ (checked .if1 .left) in
+    c .before .before .before .before .create-read-window .ensures
+    ∙ row-at 4 (setUp (a .board)) (a .t2) m (c .before .before .before .before .before .before .before .match .keys5) sound
+
+same-length-5 : tie.Need-same-length-5
+same-length-5 c = search needs
+
+same-length-6 : tie.Need-same-length-6
+same-length-6 c = search needs
+
 returns-7 : tie.Need-returns-7
-unfolding answerTo
+unfolding commandAt
 returns-7 c =
-    let a = c .before .before .before .before .before .before .before .before .before .before .args in
-    let e = mediate-as (setUp (a .board)) (a .registers) (lent (a .session) (a .flash .now) (a .memory .now)) Argument (sym (c .before .before .before .before .before .before .before .reason-for .ensures) ∙ c .before .before .before .before .before .enum-told7 .given .1) in
-    let call = c .before .before .refuse-argument in
-    call .ensures ∙ sym e
+    let checked = c .before .before .before .before .before .before in
+    let a = checked .before .before .before .before .args in
+    let m = lent (a .session) (a .flash .now) (a .memory .now) in
+    let sound = sym (checked .before .is-sound-at .ensures) ∙ not-false _ (checked .if1 .left) in
+    c .before .before .close-window .ensures
+    ∙ row-at 5 (setUp (a .board)) (a .t2) m (c .before .before .before .before .before .match .keys6) sound
+
+same-length-7 : tie.Need-same-length-7
+same-length-7 c = search needs
+
+same-length-8 : tie.Need-same-length-8
+same-length-8 c = search needs
+
+returns-8 : tie.Need-returns-8
+unfolding commandAt
+returns-8 c =
+    let checked = c .before .before .before .before .before .before .before .before in
+    let a = checked .before .before .before .before .args in
+    let m = lent (a .session) (a .flash .now) (a .memory .now) in
+    let sound = sym (checked .before .is-sound-at .ensures) ∙ not-false _ (checked .if1 .left) in
+    c .before .before .before .before .create-write-window .ensures
+    ∙ row-at 6 (setUp (a .board)) (a .t2) m (c .before .before .before .before .before .before .before .match .keys7) sound
+
+returns-9 : tie.Need-returns-9
+unfolding commandAt
+returns-9 c =
+    let checked = c .before .before in
+    let a = checked .before .before .before .before .args in
+    let m = lent (a .session) (a .flash .now) (a .memory .now) in
+    let sound = sym (checked .before .is-sound-at .ensures) ∙ not-false _ (checked .if1 .left) in
+    c .mark-dirty .ensures (a .flash .now) (a .memory .now)
+    ∙ row-at 7 (setUp (a .board)) (a .t2) m (c .before .match .keys8) sound
+
+same-length-9 : tie.Need-same-length-9
+same-length-9 c = search needs
+
+same-length-10 : tie.Need-same-length-10
+same-length-10 c = search needs
+
+returns-10 : tie.Need-returns-10
+unfolding commandAt
+returns-10 c =
+    let checked = c .before .before .before .before .before .before in
+    let a = checked .before .before .before .before .args in
+    let m = lent (a .session) (a .flash .now) (a .memory .now) in
+    let sound = sym (checked .before .is-sound-at .ensures) ∙ not-false _ (checked .if1 .left) in
+    c .before .before .flush .ensures
+    ∙ row-at 8 (setUp (a .board)) (a .t2) m (c .before .before .before .before .before .match .keys9) sound
+
+returns-11 : tie.Need-returns-11
+unfolding commandAt
+returns-11 c =
+    let checked = c .before .before in
+    let a = checked .before .before .before .before .args in
+    let m = lent (a .session) (a .flash .now) (a .memory .now) in
+    let sound = sym (checked .before .is-sound-at .ensures) ∙ not-false _ (checked .if1 .left) in
+    c .acknowledge .ensures (a .flash .now) (a .memory .now)
+    ∙ row-at 9 (setUp (a .board)) (a .t2) m (c .before .match .keys10) sound
+
+same-length-11 : tie.Need-same-length-11
+same-length-11 c = search needs
+
+returns-12 : tie.Need-returns-12
+unfolding commandAt
+returns-12 c =
+    let checked = c .before .before .before .before .before in
+    let a = checked .before .before .before .before .args in
+    let m = lent (a .session) (a .flash .now) (a .memory .now) in
+    let sound = sym (checked .before .is-sound-at .ensures) ∙ not-false _ (checked .if1 .left) in
+    c .before .before .erase .ensures (a .flash .now)
+    ∙ row-at 10 (setUp (a .board)) (a .t2) m (c .before .before .before .before .match .keys11) sound
+
+returns-13 : tie.Need-returns-13
+returns-13 c =
+    let checked = c .before .before in
+    let a = checked .before .before .before .before .args in
+    let m = lent (a .session) (a .flash .now) (a .memory .now) in
+    let sound = sym (checked .before .is-sound-at .ensures) ∙ not-false _ (checked .if1 .left) in
+    let r = c .before .match .rest in
+    c .unknown2 .ensures (a .flash .now) (a .memory .now)
+    ∙ unknown-at (setUp (a .board)) (a .t2) m (past-table (commandOf (a .t2)) (r .0 .0 .0 .0 .0 .0 .0 .0 .0 .1) (r .0 .0 .0 .0 .0 .0 .0 .0 .1) (r .0 .0 .0 .0 .0 .0 .0 .1) (r .0 .0 .0 .0 .0 .0 .1) (r .0 .0 .0 .0 .0 .1) (r .0 .0 .0 .0 .1) (r .0 .0 .0 .1) (r .0 .0 .1) (r .0 .1) (r .1)) sound
 
 pub command-spec : {M : Type 1} → statement M
 command-spec =
     tie.close
     (tie.spec
-    reason-for-requires
-    enum-told
-    serve-requires
-    enum-told-2
-    refuse-requires
-    enum-told-3
-    refuse-numbered-requires
-    enum-told-4
-    refuse-numbered-requires-2
-    enum-told-5
-    refuse-numbered-requires-3
-    enum-told-6
-    refuse-numbered-requires-4
-    enum-told-7
-    refuse-argument-requires
-    same-length
-    same-length-2
+    is-sound-at-requires
+    answer-requires
     returns
+    array-read-code
+    unknown-requires
+    reset-requires
+    get-info-requires
+    get-flash-info-requires
+    create-read-window-requires
+    close-window-requires
+    create-write-window-requires
+    mark-dirty-requires
+    flush-requires
+    acknowledge-requires
+    erase-requires
+    unknown-requires-2
     returns-2
     returns-3
+    same-length
     returns-4
+    same-length-2
     returns-5
-    returns-6
     same-length-3
     same-length-4
-    returns-7)
+    returns-6
+    same-length-5
+    same-length-6
+    returns-7
+    same-length-7
+    same-length-8
+    returns-8
+    returns-9
+    same-length-9
+    same-length-10
+    returns-10
+    returns-11
+    same-length-11
+    returns-12
+    returns-13)

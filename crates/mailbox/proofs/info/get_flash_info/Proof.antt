@@ -1,67 +1,73 @@
 -- `mailbox::info::get_flash_info` meets its contract.
-use mathlib.Core.Path.{ap, _∙_}
-use mathlib.Core.List.{_++_}
+use mathlib.Core.Path.{refl, ap, _∙_}
+use mathlib.Core.Bool.{Bool, true, false}
 use Prim.Native.Nat.{ℕ}
 use borrow.Author.Needs.{needs}
-use borrow.Author.Tests.{lt-ltb, le-ltb}
-use Rattle.units.specs.Units.{blockBytes}
-use Rattle.registers.specs.Registers.{bytesOf}
-use Rattle.mailbox.specs.Commands.{answered}
+use lib.Dec.{lit≤}
+use lib.ListN.{length}
+use Rattle.session.specs.declared.Session.{Session}
+use Rattle.soundness.proofs.Facts.{sized, counted}
+use Rattle.refusals.specs.declared.Needs.the-variants.{Access}
+use Rattle.refusals.specs.Refusals.{reasonFor}
+use Rattle.mailbox.specs.declared.Answer.{Answer}
+use Rattle.mailbox.specs.Commands.{outcome, flashInfoAnswer, numbered}
+use Rattle.mailbox.specs.Table.{getFlashInfo}
+use Rattle.session.specs.Machine.{setUp, lent}
+use Rattle.mailbox.proofs.Mediating.{accepted-by}
+use Rattle.mailbox.proofs.Refusing.{refused-left}
 use Rattle.mailbox.proofs.info.get_flash_info.Statement.{statement}
 use Rattle.mailbox.proofs.info.get_flash_info.Tie as tie
 
-bytes-requires : tie.Need-bytes-requires
-bytes-requires c κs = search needs
+reason-for-requires : tie.Need-reason-for-requires
+reason-for-requires c κs = search needs
 
-cast-b0 : tie.Need-cast-b0
-cast-b0 c = search needs
+enum-told : tie.Need-enum-told
+enum-told c = search needs
 
-cast-b1 : tie.Need-cast-b1
-cast-b1 c = search needs
-
-cast-b2 : tie.Need-cast-b2
-cast-b2 c = search needs
-
-cast-b3 : tie.Need-cast-b3
-cast-b3 c = search needs
-
-answer-requires : tie.Need-answer-requires
-answer-requires c κs = search needs
+refuse-requires : tie.Need-refuse-requires
+refuse-requires c κs = search needs
 
 returns : tie.Need-returns
-returns c =
-    let s = c .before .before in
-    let a = s .before .before .args in
-    rw (lt-ltb (a .session .version) 2 (s .if1 .taken))
-    (c .answer .ensures ∙ ap (λ (n : ℕ). answered (a .session) (a .registers) 1 (bytesOf 4 n ++ bytesOf 4 blockBytes) 0) (c .before .bytes .ensures))
+returns c = λ memory.
+    let asked = c .before .before in
+    let entered = asked .before .before .before .before in
+    let call = entered .args .call in
+    let e = asked .reason-for .ensures ∙ ap (λ (k : Bool). reasonFor true (call .session) (call .registers) k Access false) (entered .pre .0) in
+    refused-left getFlashInfo (setUp (call .board)) (call .registers) (call .session) (entered .args .flash .now) memory (asked .reason-for .result) (c .refuse .result) e (c .before .match .keys2) refl (c .refuse .ensures)
 
-cast-low : tie.Need-cast-low
-cast-low c = search needs
+blocks-requires : tie.Need-blocks-requires
+blocks-requires c κs = search needs
 
-cast-high : tie.Need-cast-high
-cast-high c = search needs
+with-number-requires : tie.Need-with-number-requires
+with-number-requires c κs = search needs
 
-answer-requires-2 : tie.Need-answer-requires-2
-answer-requires-2 c κs = search needs
+tell-flash-requires : tie.Need-tell-flash-requires
+tell-flash-requires c κs = search needs
 
 returns-2 : tie.Need-returns-2
-returns-2 c =
-    let s = c .before in
-    let a = s .before .before .args in
-    rw (le-ltb (a .session .version) 2 (s .if1 .left)) (c .answer2 .ensures)
+returns-2 c = λ memory.
+    let told = c .before .before .before in
+    let asked = told .before .before in
+    let entered = asked .before .before .before .before in
+    let call = entered .args .call in
+    let e = asked .reason-for .ensures ∙ ap (λ (k : Bool). reasonFor true (call .session) (call .registers) k Access false) (entered .pre .0) in
+    let flash = entered .args .flash .now in
+    let blocks = c .before .before .blocks2 .ensures ∙ counted 65535 (length flash) (lit≤ tt) (sized 65535 (length flash) (entered .pre .1)) in
+    ap (λ (r : Answer). outcome r flash memory)
+    (c .tell-flash .ensures
+    ∙ ap (λ (s : Session). flashInfoAnswer s (call .registers) (c .before .before .blocks2 .result .0)) (c .before .with-number .ensures)
+    ∙ ap (λ (n : ℕ). flashInfoAnswer (numbered (call .session) (call .registers)) (call .registers) n) blocks)
+    ∙ accepted-by getFlashInfo (setUp (call .board)) (call .registers) (lent (call .session) flash memory) (asked .reason-for .result) e (told .enum-told .given .1)
 
 pub get-flash-info-spec : {M : Type 1} → statement M
 get-flash-info-spec =
     tie.close
     (tie.spec
-    bytes-requires
-    cast-b0
-    cast-b1
-    cast-b2
-    cast-b3
-    answer-requires
+    reason-for-requires
+    enum-told
+    refuse-requires
     returns
-    cast-low
-    cast-high
-    answer-requires-2
+    blocks-requires
+    with-number-requires
+    tell-flash-requires
     returns-2)

@@ -1,79 +1,73 @@
 -- `mailbox::info::get_info` meets its contract.
-use mathlib.Core.Path.{_≡_, ap, _∙_}
-use Prim.Native.Nat.{min}
-use mathlib.Core.List.{_∷_, _++_}
-use native.Mathlib.Omega.{arith}
+use mathlib.Core.Path.{refl, ap, _∙_}
+use Prim.Native.Nat.{ℕ}
 use borrow.Author.Needs.{needs}
-use borrow.Author.Tests.{lt-ltb}
-use lib.ListN.{getD}
+use lib.Dec.{lit≤}
+use lib.ListN.{length}
 use Rattle.session.specs.declared.Session.{Session}
-use Rattle.registers.specs.Registers.{bytesOf}
-use Rattle.mailbox.specs.Commands.{answered, infoArguments}
+use Rattle.soundness.proofs.Facts.{sized, counted}
+use Rattle.mailbox.specs.declared.Answer.{Answer}
+use Rattle.mailbox.specs.Commands.{outcome, infoAnswer, numbered}
+use Rattle.mailbox.specs.Table.{getInfo}
+use Rattle.session.specs.Machine.{setUp, lent}
+use Rattle.mailbox.proofs.Mediating.{accepted-by}
+use Rattle.mailbox.proofs.Refusing.{refused-left}
 use Rattle.mailbox.proofs.info.get_info.Statement.{statement}
 use Rattle.mailbox.proofs.info.get_info.Tie as tie
 
-array-read-if1 : tie.Need-array-read-if1
-array-read-if1 c = search needs
+array-read-reason-for : tie.Need-array-read-reason-for
+array-read-reason-for c = search needs
 
-cast-low : tie.Need-cast-low
-cast-low c = search needs
+reason-for-requires : tie.Need-reason-for-requires
+reason-for-requires c κs = search needs
 
-cast-high : tie.Need-cast-high
-cast-high c = search needs
+enum-told : tie.Need-enum-told
+enum-told c = search needs
 
-array-read-with-version : tie.Need-array-read-with-version
-array-read-with-version c = search needs
-
-with-version-requires : tie.Need-with-version-requires
-with-version-requires c κs = search needs
-
-array-read-t23 : tie.Need-array-read-t23
-array-read-t23 c = search needs
-
-answer-requires : tie.Need-answer-requires
-answer-requires c κs = search needs
+refuse-requires : tie.Need-refuse-requires
+refuse-requires c κs = search needs
 
 returns : tie.Need-returns
-returns c =
-    let s = c .before .before in
-    let a = s .before .args in
-    let v = getD (a .t2) 2 0 in
-    let m : min v 2 ≡ v = omega arith in
-    rw (m, lt-ltb v 2 (s .if1 .taken))
-    (c .answer .ensures ∙ ap (λ (t : Session). answered t (a .t2) 1 (v ∷ (bytesOf 2 (a .memory) ++ bytesOf 2 (a .memory))) 0) (c .before .with-version .ensures))
+returns c = λ flash.
+    let asked = c .before .before in
+    let entered = asked .before .before .before .before in
+    let call = entered .args .call in
+    refused-left getInfo (setUp (call .board)) (call .registers) (call .session) flash (entered .args .memory .now) (asked .reason-for .result) (c .refuse .result) (asked .reason-for .ensures) (c .before .match .keys2) refl (c .refuse .ensures)
 
-cast-low-2 : tie.Need-cast-low-2
-cast-low-2 c = search needs
+blocks-requires : tie.Need-blocks-requires
+blocks-requires c κs = search needs
 
-cast-high-2 : tie.Need-cast-high-2
-cast-high-2 c = search needs
+with-number-requires : tie.Need-with-number-requires
+with-number-requires c κs = search needs
 
-with-version-requires-2 : tie.Need-with-version-requires-2
-with-version-requires-2 c κs = search needs
-
-answer-requires-2 : tie.Need-answer-requires-2
-answer-requires-2 c κs = search needs
+agree-requires : tie.Need-agree-requires
+agree-requires c κs = search needs
 
 returns-2 : tie.Need-returns-2
-returns-2 c =
-    let a = c .before .before .before .before .before .args in
-    let m : min (getD (a .t2) 2 0) 2 ≡ 2 = omega arith in
-    rw m (c .answer2 .ensures ∙ ap (λ (t : Session). answered t (a .t2) 1 (infoArguments 2 (a .memory) (a .board .timeout)) 0) (c .before .with-version2 .ensures))
+returns-2 c = λ flash.
+    let told = c .before .before .before in
+    let asked = told .before .before in
+    let entered = asked .before .before .before .before in
+    let call = entered .args .call in
+    let setup = setUp (call .board) in
+    let memory = entered .args .memory .now in
+    let blocks = c .before .before .blocks2 .ensures ∙ counted 64 (length memory) (lit≤ tt) (sized 64 (length memory) (entered .pre)) in
+    ap (λ (r : Answer). outcome r flash memory)
+    (c .agree .ensures
+    ∙ ap (λ (s : Session). infoAnswer setup s (call .registers) (c .before .before .blocks2 .result .0)) (c .before .with-number .ensures)
+    ∙ ap (λ (n : ℕ). infoAnswer setup (numbered (call .session) (call .registers)) (call .registers) n) blocks)
+    ∙ accepted-by getInfo (setUp (call .board)) (call .registers) (lent (call .session) flash memory) (asked .reason-for .result) (asked .reason-for .ensures) (told .enum-told .given .1)
 
 pub get-info-spec : {M : Type 1} → statement M
 get-info-spec =
     tie.close
     (tie.spec
-    array-read-if1
-    cast-low
-    cast-high
-    array-read-with-version
-    with-version-requires
-    array-read-t23
-    answer-requires
+    array-read-reason-for
+    reason-for-requires
+    enum-told
+    refuse-requires
     returns
-    cast-low-2
-    cast-high-2
-    with-version-requires-2
-    answer-requires-2
+    blocks-requires
+    with-number-requires
+    agree-requires
     returns-2)

@@ -1,86 +1,87 @@
 -- `mailbox::marks::erase` meets its contract.
-use mathlib.Core.Path.{refl, ap, _∙_}
-use mathlib.Core.List.{[]}
-use Prim.Native.Nat.{ℕ, _+_}
-use native.Mathlib.Omega.{arith}
+use mathlib.Core.Path.{refl, sym, ap, _∙_}
+use mathlib.Core.Bool.{Bool, true, not}
 use borrow.Author.Needs.{needs}
-use Rattle.units.specs.Units.{toBytes}
-use Rattle.chip.specs.Actions.{erased}
-use Rattle.chip.proofs.Lent.{erased-part}
+use borrow.Author.Tests.{not-false}
+use lib.ListN.{length}
 use Rattle.session.specs.declared.Session.{Session}
 use Rattle.refusals.specs.declared.BlockRange.{BlockRange}
-use Rattle.refusals.specs.Refusals.{blocksNamed}
-use Rattle.mailbox.specs.Commands.{outcome, answered}
+use Rattle.refusals.specs.declared.Needs.the-variants.{WriteWindow}
+use Rattle.refusals.specs.Refusals.{blocksNamed, reasonFor}
+use Rattle.refusals.proofs.Accepting.{passed}
+use Rattle.mailbox.specs.Commands.{erasedOutcome}
+use Rattle.mailbox.specs.Table.{erase}
+use Rattle.mailbox.proofs.Marking.{named-fit, named-bytes-fit}
+use Rattle.session.specs.Machine.{setUp, lent}
+use Rattle.mailbox.proofs.Mediating.{accepted-by}
+use Rattle.mailbox.proofs.Refusing.{refused-left}
 use Rattle.mailbox.proofs.marks.erase.Statement.{statement}
 use Rattle.mailbox.proofs.marks.erase.Tie as tie
 
 blocks-named-requires : tie.Need-blocks-named-requires
 blocks-named-requires c κs = search needs
 
-bytes-requires : tie.Need-bytes-requires
-bytes-requires c κs = search needs
+reason-for-requires : tie.Need-reason-for-requires
+reason-for-requires c κs = search needs
 
-bytes-requires-2 : tie.Need-bytes-requires-2
-bytes-requires-2 c κs = search needs
+enum-told : tie.Need-enum-told
+enum-told c = search needs
 
-add-end : tie.Need-add-end
-add-end c = search needs
+refuse-requires : tie.Need-refuse-requires
+refuse-requires c κs = search needs
 
-sub-fill : tie.Need-sub-fill
-sub-fill c = search needs
+returns : tie.Need-returns
+returns c = λ flash.
+    let asked = c .before .before in
+    let entered = asked .before .before .before .before .before .before in
+    let call = entered .args .call in
+    let e = asked .reason-for .ensures ∙ ap (λ (k : Bool). reasonFor true (call .session) (call .registers) k WriteWindow (not (asked .before .before .blocks-named .result .inside))) (entered .pre .0)
+    ∙ ap (λ (b : BlockRange). reasonFor true (call .session) (call .registers) (erase .known (call .session .version)) WriteWindow (not (b .inside))) (asked .before .before .blocks-named .ensures) in
+    refused-left erase (setUp (call .board)) (call .registers) (call .session) flash (entered .args .memory .now) (asked .reason-for .result) (c .refuse .result) e (c .before .match .keys2) refl (c .refuse .ensures)
 
-part-fill-start : tie.Need-part-fill-start
-part-fill-start c = search needs
+with-number-requires : tie.Need-with-number-requires
+with-number-requires c κs = search needs
 
-part-fill-end : tie.Need-part-fill-end
-part-fill-end c =
-    let b = c .before .before .blocks-named .ensures in
-    let start = c .before .bytes .ensures ∙ ap (λ (t : BlockRange). toBytes (t .start)) b in
-    let count = c .bytes2 .ensures ∙ ap (λ (t : BlockRange). toBytes (t .count)) b in
-    omega arith
-
-fill-requires : tie.Need-fill-requires
-fill-requires c κs = search needs
-
-mark-named-requires : tie.Need-mark-named-requires
-mark-named-requires c κs = search needs
-
-answer-requires : tie.Need-answer-requires
-answer-requires c κs = search needs
+erase-named-requires : tie.Need-erase-named-requires
+erase-named-requires c κs =
+    let told = c .before .before in
+    let asked = told .before .before in
+    let entered = asked .before .before .before .before .before .before in
+    let call = entered .args .call in
+    let e = asked .reason-for .ensures ∙ ap (λ (k : Bool). reasonFor true (call .session) (call .registers) k WriteWindow (not (asked .before .before .blocks-named .result .inside))) (entered .pre .0)
+    ∙ ap (λ (b : BlockRange). reasonFor true (call .session) (call .registers) (erase .known (call .session .version)) WriteWindow (not (b .inside))) (asked .before .before .blocks-named .ensures) in
+    let p = passed true (call .session) (call .registers) (erase .known (call .session .version)) WriteWindow (not (blocksNamed (call .session) (call .registers) .inside)) (sym e ∙ told .enum-told .given .1) in
+    let next = c .before .with-number in
+    let inside = not-false _ (p .argued) in (
+      named-fit (call .session) (next .result) (call .registers) 64 (next .ensures) inside (entered .pre .1),
+      named-bytes-fit (call .session) (next .result) (call .registers) (length (entered .args .memory .now)) (next .ensures) inside (entered .pre .2),
+    )
 
 same-length : tie.Need-same-length
 same-length c = search needs
 
-returns : tie.Need-returns
-returns c =
-    let m = c .before .mark-named in
-    let s = c .before .before .before .before in
-    let b = s .before .before .before .before in
-    let a = b .before .before .args in
-    let v = b .blocks-named .ensures in
-    let from = s .before .before .before .bytes .result .0 in
-    let size = s .before .before .bytes2 .result .0 in
-    let start = s .before .before .before .bytes .ensures ∙ ap (λ (t : BlockRange). toBytes (t .start)) v in
-    let count = s .before .before .bytes2 .ensures ∙ ap (λ (t : BlockRange). toBytes (t .count)) v in
-    let r = c .answer .ensures ∙ ap (λ (t : Session). answered t (a .registers) 1 [] 0) (m .ensures) in
-    let memory = erased-part from (from + size) size (a .memory .now) (s .fill .last .0) refl (omega (arith, b .before .before .pre .1)) (s .fill .ensures)
-    ∙ ap (λ (t : ℕ). erased t size (a .memory .now)) start
-    ∙ ap (λ (t : ℕ). erased (toBytes (blocksNamed (a .session) (a .registers) .start)) t (a .memory .now)) count in
-    λ flash i. outcome (r i) flash (memory i)
+returns-2 : tie.Need-returns-2
+returns-2 c = λ flash.
+    let told = c .before .before .before .before .before in
+    let asked = told .before .before in
+    let entered = asked .before .before .before .before .before .before in
+    let call = entered .args .call in
+    let e = asked .reason-for .ensures ∙ ap (λ (k : Bool). reasonFor true (call .session) (call .registers) k WriteWindow (not (asked .before .before .blocks-named .result .inside))) (entered .pre .0)
+    ∙ ap (λ (b : BlockRange). reasonFor true (call .session) (call .registers) (erase .known (call .session .version)) WriteWindow (not (b .inside))) (asked .before .before .blocks-named .ensures) in
+    c .before .before .erase-named .ensures flash
+    ∙ ap (λ (s : Session). erasedOutcome (call .registers) (lent s flash (entered .args .memory .now))) (c .before .before .before .before .with-number .ensures)
+    ∙ accepted-by erase (setUp (call .board)) (call .registers) (lent (call .session) flash (entered .args .memory .now)) (asked .reason-for .result) e (told .enum-told .given .1)
 
 pub erase-spec : {M : Type 1} → statement M
 erase-spec =
     tie.close
     (tie.spec
     blocks-named-requires
-    bytes-requires
-    bytes-requires-2
-    add-end
-    sub-fill
-    part-fill-start
-    part-fill-end
-    fill-requires
-    mark-named-requires
-    answer-requires
+    reason-for-requires
+    enum-told
+    refuse-requires
+    returns
+    with-number-requires
+    erase-named-requires
     same-length
-    returns)
+    returns-2)

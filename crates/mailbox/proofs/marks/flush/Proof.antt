@@ -1,51 +1,86 @@
 -- `mailbox::marks::flush` meets its contract.
-use mathlib.Core.Path.{sym, _∙_}
+use mathlib.Core.Path.{_≡_, refl, sym, ap, _∙_}
+use mathlib.Core.Bool.{Bool, true, not, _&&_}
 use borrow.Author.Needs.{needs}
+use borrow.Author.Tests.{not-false}
+use Rattle.session.specs.declared.Session.{Session}
+use Rattle.refusals.specs.declared.Needs.the-variants.{WriteWindow}
+use Rattle.refusals.specs.Refusals.{blocksNamed, flushMarks, reasonFor}
+use Rattle.refusals.proofs.Accepting.{passed}
+use Rattle.mailbox.specs.Commands.{flushed}
+use Rattle.mailbox.specs.Table.{flush}
+use Rattle.mailbox.proofs.Marking.{named-fit}
+use Rattle.session.specs.Machine.{setUp, lent}
+use Rattle.mailbox.proofs.Mediating.{accepted-by}
+use Rattle.mailbox.proofs.Refusing.{refused-left}
 use Rattle.mailbox.proofs.marks.flush.Statement.{statement}
 use Rattle.mailbox.proofs.marks.flush.Tie as tie
 
-flush-marks-requires : tie.Need-flush-marks-requires
-flush-marks-requires c κs = search needs
+flush-outside-requires : tie.Need-flush-outside-requires
+flush-outside-requires c κs = search needs
 
-mark-named-requires : tie.Need-mark-named-requires
-mark-named-requires c κs =
-    let m = c .before .flush-marks in
-    c .before .before .before .before .pre (sym (m .ensures) ∙ c .if1 .taken)
+reason-for-requires : tie.Need-reason-for-requires
+reason-for-requires c κs = search needs
 
-flush-all-requires : tie.Need-flush-all-requires
-flush-all-requires c κs = search needs
+enum-told : tie.Need-enum-told
+enum-told c = search needs
+
+refuse-requires : tie.Need-refuse-requires
+refuse-requires c κs = search needs
+
+returns : tie.Need-returns
+returns c =
+    let asked = c .before .before in
+    let entered = asked .before .before .before .before .before .before in
+    let call = entered .args .call in
+    let e = asked .reason-for .ensures ∙ ap (λ (k : Bool). reasonFor true (call .session) (call .registers) k WriteWindow (asked .before .flush-outside .result)) (entered .pre .0)
+    ∙ ap (reasonFor true (call .session) (call .registers) (flush .known (call .session .version)) WriteWindow) (asked .before .flush-outside .ensures) in
+    refused-left flush (setUp (call .board)) (call .registers) (call .session) (entered .args .flash .now) (entered .args .memory .now) (asked .reason-for .result) (c .refuse .result) e (c .before .match .keys2) refl (c .refuse .ensures)
+
+with-number-requires : tie.Need-with-number-requires
+with-number-requires c κs = search needs
+
+flush-named-requires : tie.Need-flush-named-requires
+flush-named-requires c κs =
+    let told = c .before .before in
+    let asked = told .before .before in
+    let entered = asked .before .before .before .before .before .before in
+    let call = entered .args .call in
+    let e = asked .reason-for .ensures ∙ ap (λ (k : Bool). reasonFor true (call .session) (call .registers) k WriteWindow (asked .before .flush-outside .result)) (entered .pre .0)
+    ∙ ap (reasonFor true (call .session) (call .registers) (flush .known (call .session .version)) WriteWindow) (asked .before .flush-outside .ensures) in
+    let s = call .session in
+    let registers = call .registers in
+    let next = c .before .with-number in
+    let p = passed true s registers (flush .known (s .version)) WriteWindow (flushMarks s registers && not (blocksNamed s registers .inside)) (sym e ∙ told .enum-told .given .1) in
+    λ marks.
+    let adds : flushMarks s registers ≡ true = sym (ap (λ (t : Session). flushMarks t registers) (next .ensures)) ∙ marks in
+    named-fit s (next .result) registers 64 (next .ensures) (not-false (blocksNamed s registers .inside) (rw adds at (p .argued))) (entered .pre .1)
 
 same-length : tie.Need-same-length
 same-length c = search needs
 
-returns : tie.Need-returns
-returns c =
-    let t = c .before .before .before .before in
-    let m = t .before .before .flush-marks in
-    let w = sym (m .ensures) ∙ t .before .if1 .taken in
-    rw w (rw (t .mark-named .ensures) at (c .before .before .flush-all .ensures))
-
-flush-all-requires-2 : tie.Need-flush-all-requires-2
-flush-all-requires-2 c κs = search needs
-
-same-length-2 : tie.Need-same-length-2
-same-length-2 c = search needs
-
 returns-2 : tie.Need-returns-2
 returns-2 c =
-    let t = c .before .before .before .before in
-    let w = sym (t .before .flush-marks .ensures) ∙ t .if1 .left in
-    rw w (c .before .before .flush-all2 .ensures)
+    let told = c .before .before .before .before .before in
+    let asked = told .before .before in
+    let entered = asked .before .before .before .before .before .before in
+    let call = entered .args .call in
+    let e = asked .reason-for .ensures ∙ ap (λ (k : Bool). reasonFor true (call .session) (call .registers) k WriteWindow (asked .before .flush-outside .result)) (entered .pre .0)
+    ∙ ap (reasonFor true (call .session) (call .registers) (flush .known (call .session .version)) WriteWindow) (asked .before .flush-outside .ensures) in
+    c .before .before .flush-named .ensures
+    ∙ ap (λ (s : Session). flushed (call .registers) (lent s (entered .args .flash .now) (entered .args .memory .now))) (c .before .before .before .before .with-number .ensures)
+    ∙ accepted-by flush (setUp (call .board)) (call .registers) (lent (call .session) (entered .args .flash .now) (entered .args .memory .now)) (asked .reason-for .result) e (told .enum-told .given .1)
 
 pub flush-spec : {M : Type 1} → statement M
 flush-spec =
     tie.close
     (tie.spec
-    flush-marks-requires
-    mark-named-requires
-    flush-all-requires
-    same-length
+    flush-outside-requires
+    reason-for-requires
+    enum-told
+    refuse-requires
     returns
-    flush-all-requires-2
-    same-length-2
+    with-number-requires
+    flush-named-requires
+    same-length
     returns-2)

@@ -1,36 +1,64 @@
 -- `mailbox::windows::close_window` meets its contract.
-use mathlib.Core.Path.{ap, _∙_}
-use Prim.Native.Nat.{_-_}
+use mathlib.Core.Path.{refl, ap, _∙_}
+use mathlib.Core.Bool.{Bool, true, false}
 use borrow.Author.Needs.{needs}
-use lib.ListN.{replicate}
 use Rattle.session.specs.declared.Session.{Session}
-use Rattle.mailbox.specs.Commands.{outcome, answerWith}
-use Rattle.flush.specs.Window.{Flushed}
-use Rattle.session.specs.Record.{dropWindow}
+use Rattle.refusals.specs.declared.Needs.the-variants.{Access}
+use Rattle.refusals.specs.Refusals.{reasonFor}
+use Rattle.mailbox.specs.Commands.{closed}
+use Rattle.mailbox.specs.Table.{closeWindow}
+use Rattle.session.specs.Machine.{setUp, lent}
+use Rattle.mailbox.proofs.Mediating.{accepted-by}
+use Rattle.mailbox.proofs.Refusing.{refused-left}
 use Rattle.mailbox.proofs.windows.close_window.Statement.{statement}
 use Rattle.mailbox.proofs.windows.close_window.Tie as tie
 
-flush-window-requires : tie.Need-flush-window-requires
-flush-window-requires c κs = search needs
+reason-for-requires : tie.Need-reason-for-requires
+reason-for-requires c κs = search needs
 
-without-window-requires : tie.Need-without-window-requires
-without-window-requires c κs = search needs
+enum-told : tie.Need-enum-told
+enum-told c = search needs
 
-answer-requires : tie.Need-answer-requires
-answer-requires c κs = search needs
+refuse-requires : tie.Need-refuse-requires
+refuse-requires c κs = search needs
+
+returns : tie.Need-returns
+returns c =
+    let asked = c .before .before in
+    let entered = asked .before .before .before .before .before in
+    let call = entered .args .call in
+    let e = asked .reason-for .ensures ∙ ap (λ (k : Bool). reasonFor true (call .session) (call .registers) k Access false) (entered .pre) in
+    refused-left closeWindow (setUp (call .board)) (call .registers) (call .session) (entered .args .flash .now) (entered .args .memory .now) (asked .reason-for .result) (c .refuse .result) e (c .before .match .keys2) refl (c .refuse .ensures)
+
+with-number-requires : tie.Need-with-number-requires
+with-number-requires c κs = search needs
+
+close-requires : tie.Need-close-requires
+close-requires c κs = search needs
 
 same-length : tie.Need-same-length
 same-length c = search needs
 
-returns : tie.Need-returns
-returns c =
-    let a = c .before .before .before .before .before .before .before .before .args in
-    let call = c .before .before .before .before .flush-window in
-    let r = c .answer .ensures ∙ ap (λ (s : Session). answerWith s (a .registers) (a .code) (replicate 11 0) (call .result)) (c .before .without-window .ensures) in
-    (λ i. outcome (r i) (call .last .1 .0) (a .memory .now))
-    ∙ ap (λ (f : Flushed). outcome (answerWith (dropWindow (a .session)) (a .registers) (a .code) (replicate 11 0) (f .actions)) (f .flash) (a .memory .now)) (call .ensures)
+returns-2 : tie.Need-returns-2
+returns-2 c =
+    let told = c .before .before .before .before .before in
+    let asked = told .before .before in
+    let entered = asked .before .before .before .before .before in
+    let call = entered .args .call in
+    let e = asked .reason-for .ensures ∙ ap (λ (k : Bool). reasonFor true (call .session) (call .registers) k Access false) (entered .pre) in
+    c .before .before .close .ensures
+    ∙ ap (λ (s : Session). closed (call .registers) (lent s (entered .args .flash .now) (entered .args .memory .now))) (c .before .before .before .before .with-number .ensures)
+    ∙ accepted-by closeWindow (setUp (call .board)) (call .registers) (lent (call .session) (entered .args .flash .now) (entered .args .memory .now)) (asked .reason-for .result) e (told .enum-told .given .1)
 
 pub close-window-spec : {M : Type 1} → statement M
 close-window-spec =
     tie.close
-    (tie.spec flush-window-requires without-window-requires answer-requires same-length returns)
+    (tie.spec
+    reason-for-requires
+    enum-told
+    refuse-requires
+    returns
+    with-number-requires
+    close-requires
+    same-length
+    returns-2)

@@ -1,155 +1,122 @@
--- `refusals::checks::reason_for` meets its contract.
-use mathlib.Core.Path.{_≡_, sym, ap, _∙_}
-use mathlib.Core.Bool.{true}
-use Prim.Native.Nat.{ℕ}
+-- `refusals::checks::reason_for` meets its contract: each way out is a row of the table.
+use mathlib.Core.Path.{sym, ap, _∙_}
+use mathlib.Core.Bool.{Bool, _&&_}
 use borrow.Author.Tests.{not-true, not-false}
 use borrow.Author.Needs.{needs}
-use Rattle.session.specs.Machine.{setUp}
-use Rattle.soundness.specs.Soundness.{soundAt}
-use Rattle.refusals.specs.Refusals.{argumentBroken, reasonFor}
-use Rattle.refusals.proofs.BlockRanges.{flash-counted}
+use Rattle.refusals.specs.Refusals.{needsNumber, needsWindow, reasonFor}
 use Rattle.refusals.proofs.checks.reason_for.Statement.{statement}
 use Rattle.refusals.proofs.checks.reason_for.Tie as tie
 
-is-sound-at-requires : tie.Need-is-sound-at-requires
-is-sound-at-requires c κs = search needs
+array-read-is-previous : tie.Need-array-read-is-previous
+array-read-is-previous c = search needs
 
-returns : tie.Need-returns
-unfolding reasonFor
-returns c = rw (sym (c .before .is-sound-at .ensures) ∙ not-true _ (c .if1 .taken))
+is-previous-requires : tie.Need-is-previous-requires
+is-previous-requires c κs = search needs
 
 is-repeated-requires : tie.Need-is-repeated-requires
 is-repeated-requires c κs = search needs
 
+returns : tie.Need-returns
+unfolding reasonFor
+returns c =
+    let a = c .before .before .before .args in
+    rw (sym (c .before .is-repeated .ensures ∙ ap (λ (b : Bool). needsNumber (a .needs) && b) (c .before .before .is-previous .ensures)) ∙ c .if1 .taken)
+
 returns-2 : tie.Need-returns-2
 unfolding reasonFor
 returns-2 c =
-    let sound = c .before .before in
-    rw (sym (sound .before .is-sound-at .ensures) ∙ not-false _ (sound .if1 .left), sym (c .before .is-repeated .ensures) ∙ c .if2 .taken)
+    let known = c in
+    let fresh = known .before in
+    let a = fresh .before .before .before .args in
+    rw (
+      sym (fresh .before .is-repeated .ensures ∙ ap (λ (b : Bool). needsNumber (a .needs) && b) (fresh .before .before .is-previous .ensures)) ∙ fresh .if1 .left,
+      not-true (a .known) (known .if2 .taken),
+    )
 
-array-read-is-known : tie.Need-array-read-is-known
-array-read-is-known c = search needs
-
-is-known-requires : tie.Need-is-known-requires
-is-known-requires c κs = search needs
+is-suspended-requires : tie.Need-is-suspended-requires
+is-suspended-requires c κs = search needs
 
 returns-3 : tie.Need-returns-3
 unfolding reasonFor
 returns-3 c =
-    let fresh = c .before .before in
-    let sound = fresh .before .before in
+    let awake = c in
+    let known = awake .before .before in
+    let fresh = known .before in
+    let a = fresh .before .before .before .args in
     rw (
-      sym (sound .before .is-sound-at .ensures) ∙ not-false _ (sound .if1 .left),
-      sym (fresh .before .is-repeated .ensures) ∙ fresh .if2 .left,
-      sym (c .before .is-known .ensures) ∙ not-true _ (c .if3 .taken),
+      sym (fresh .before .is-repeated .ensures ∙ ap (λ (b : Bool). needsNumber (a .needs) && b) (fresh .before .before .is-previous .ensures)) ∙ fresh .if1 .left,
+      not-false (a .known) (known .if2 .left),
+      sym (awake .before .is-suspended .ensures) ∙ awake .if3 .taken,
     )
 
-array-read-is-suspended-for : tie.Need-array-read-is-suspended-for
-array-read-is-suspended-for c = search needs
-
-is-suspended-for-requires : tie.Need-is-suspended-for-requires
-is-suspended-for-requires c κs = search needs
-
-returns-4 : tie.Need-returns-4
-unfolding reasonFor
-returns-4 c =
-    let known = c .before .before in
-    let fresh = known .before .before in
-    let sound = fresh .before .before in
-    rw (
-      sym (sound .before .is-sound-at .ensures) ∙ not-false _ (sound .if1 .left),
-      sym (fresh .before .is-repeated .ensures) ∙ fresh .if2 .left,
-      sym (known .before .is-known .ensures) ∙ not-false _ (known .if3 .left),
-      sym (c .before .is-suspended-for .ensures) ∙ c .if4 .taken,
-    )
-
-array-read-is-windowless : tie.Need-array-read-is-windowless
-array-read-is-windowless c = search needs
+lacks-write-requires : tie.Need-lacks-write-requires
+lacks-write-requires c κs = search needs
 
 is-windowless-requires : tie.Need-is-windowless-requires
 is-windowless-requires c κs = search needs
 
+returns-4 : tie.Need-returns-4
+unfolding reasonFor
+returns-4 c =
+    let windowed = c in
+    let awake = windowed .before .before .before in
+    let known = awake .before .before in
+    let fresh = known .before in
+    let a = fresh .before .before .before .args in
+    rw (
+      sym (fresh .before .is-repeated .ensures ∙ ap (λ (b : Bool). needsNumber (a .needs) && b) (fresh .before .before .is-previous .ensures)) ∙ fresh .if1 .left,
+      not-false (a .known) (known .if2 .left),
+      sym (awake .before .is-suspended .ensures) ∙ awake .if3 .left,
+      sym (windowed .before .is-windowless .ensures ∙ ap (λ (b : Bool). needsWindow (a .needs) && b) (windowed .before .before .lacks-write .ensures)) ∙ windowed .if4 .taken,
+    )
+
 returns-5 : tie.Need-returns-5
 unfolding reasonFor
 returns-5 c =
-    let awake = c .before .before in
+    let argued = c in
+    let windowed = argued .before in
+    let awake = windowed .before .before .before in
     let known = awake .before .before in
-    let fresh = known .before .before in
-    let sound = fresh .before .before in
+    let fresh = known .before in
+    let a = fresh .before .before .before .args in
     rw (
-      sym (sound .before .is-sound-at .ensures) ∙ not-false _ (sound .if1 .left),
-      sym (fresh .before .is-repeated .ensures) ∙ fresh .if2 .left,
-      sym (known .before .is-known .ensures) ∙ not-false _ (known .if3 .left),
-      sym (awake .before .is-suspended-for .ensures) ∙ awake .if4 .left,
-      sym (c .before .is-windowless .ensures) ∙ c .if5 .taken,
+      sym (fresh .before .is-repeated .ensures ∙ ap (λ (b : Bool). needsNumber (a .needs) && b) (fresh .before .before .is-previous .ensures)) ∙ fresh .if1 .left,
+      not-false (a .known) (known .if2 .left),
+      sym (awake .before .is-suspended .ensures) ∙ awake .if3 .left,
+      sym (windowed .before .is-windowless .ensures ∙ ap (λ (b : Bool). needsWindow (a .needs) && b) (windowed .before .before .lacks-write .ensures)) ∙ windowed .if4 .left,
+      argued .if5 .taken,
     )
-
-blocks-requires : tie.Need-blocks-requires
-blocks-requires c κs = search needs
-
-breaks-a-rule-requires : tie.Need-breaks-a-rule-requires
-breaks-a-rule-requires c κs = search needs
 
 returns-6 : tie.Need-returns-6
 unfolding reasonFor
 returns-6 c =
-    let windowed = c .before .before .before in
-    let awake = windowed .before .before in
+    let argued = c in
+    let windowed = argued .before in
+    let awake = windowed .before .before .before in
     let known = awake .before .before in
-    let fresh = known .before .before in
-    let sound = fresh .before .before in
-    let a = sound .before .before .args in
-    let whole : soundAt (setUp (a .board)) (a .flash) (a .memory) (a .session) ≡ true =
-    sym (sound .before .is-sound-at .ensures) ∙ not-false _ (sound .if1 .left) in
-    let blocks = c .before .before .blocks2 .ensures ∙ flash-counted (setUp (a .board)) (a .flash) (a .memory) (a .session) whole in
+    let fresh = known .before in
+    let a = fresh .before .before .before .args in
     rw (
-      whole,
-      sym (fresh .before .is-repeated .ensures) ∙ fresh .if2 .left,
-      sym (known .before .is-known .ensures) ∙ not-false _ (known .if3 .left),
-      sym (awake .before .is-suspended-for .ensures) ∙ awake .if4 .left,
-      sym (windowed .before .is-windowless .ensures) ∙ windowed .if5 .left,
-      ap (λ (n : ℕ). argumentBroken (a .session) (a .t2) n) (sym blocks) ∙ sym (c .before .breaks-a-rule .ensures) ∙ c .if6 .taken,
-    )
-
-returns-7 : tie.Need-returns-7
-unfolding reasonFor
-returns-7 c =
-    let windowed = c .before .before .before in
-    let awake = windowed .before .before in
-    let known = awake .before .before in
-    let fresh = known .before .before in
-    let sound = fresh .before .before in
-    let a = sound .before .before .args in
-    let whole : soundAt (setUp (a .board)) (a .flash) (a .memory) (a .session) ≡ true =
-    sym (sound .before .is-sound-at .ensures) ∙ not-false _ (sound .if1 .left) in
-    let blocks = c .before .before .blocks2 .ensures ∙ flash-counted (setUp (a .board)) (a .flash) (a .memory) (a .session) whole in
-    rw (
-      whole,
-      sym (fresh .before .is-repeated .ensures) ∙ fresh .if2 .left,
-      sym (known .before .is-known .ensures) ∙ not-false _ (known .if3 .left),
-      sym (awake .before .is-suspended-for .ensures) ∙ awake .if4 .left,
-      sym (windowed .before .is-windowless .ensures) ∙ windowed .if5 .left,
-      ap (λ (n : ℕ). argumentBroken (a .session) (a .t2) n) (sym blocks) ∙ sym (c .before .breaks-a-rule .ensures) ∙ c .if6 .left,
+      sym (fresh .before .is-repeated .ensures ∙ ap (λ (b : Bool). needsNumber (a .needs) && b) (fresh .before .before .is-previous .ensures)) ∙ fresh .if1 .left,
+      not-false (a .known) (known .if2 .left),
+      sym (awake .before .is-suspended .ensures) ∙ awake .if3 .left,
+      sym (windowed .before .is-windowless .ensures ∙ ap (λ (b : Bool). needsWindow (a .needs) && b) (windowed .before .before .lacks-write .ensures)) ∙ windowed .if4 .left,
+      argued .if5 .left,
     )
 
 pub reason-for-spec : {M : Type 1} → statement M
 reason-for-spec =
     tie.close
     (tie.spec
-    is-sound-at-requires
-    returns
+    array-read-is-previous
+    is-previous-requires
     is-repeated-requires
+    returns
     returns-2
-    array-read-is-known
-    is-known-requires
+    is-suspended-requires
     returns-3
-    array-read-is-suspended-for
-    is-suspended-for-requires
-    returns-4
-    array-read-is-windowless
+    lacks-write-requires
     is-windowless-requires
+    returns-4
     returns-5
-    blocks-requires
-    breaks-a-rule-requires
-    returns-6
-    returns-7)
+    returns-6)
