@@ -1,4 +1,4 @@
--- The twelve examples of document 01 as data, and what it is for one to hold: its calls are made on the definitions, each on what the one
+-- The twelve examples of document 01 as data, one for a change request, and what it is for one to hold: its calls are made on the definitions, each on what the one
 -- before left, and what each leaves passes the checks that 01's words ask for.
 use Prim.Native.Nat.{ℕ, zero, suc, _-_}
 use mathlib.Core.Path.{_≡_}
@@ -92,8 +92,8 @@ replied o =
       actions = o .actions;
     }
 
--- a mailbox command, from register 0 on: the command (2 GET_INFO, 4 and 6 create a read or write window, 7 MARK_DIRTY, 8 FLUSH, 10 ERASE),
--- the sequence, the arguments; registers that are not given are 0
+-- a mailbox command, from register 0 on: the code of the command as a host writes it (not from the table of commands, which the examples are to
+-- test), the sequence, the arguments; registers that are not given are 0
 abbrev pub command : List ℕ → Call
 command registers s = replied (mediate setup (padded 16 registers) (s .machine))
 
@@ -170,6 +170,10 @@ kind Write = 2
 abbrev pub window : Window → ℕ → ℕ → Check
 window expected first size s =
     eqb (kind (s .machine .session .window)) (kind expected) && (eqb (s .machine .session .first) first && eqb (s .machine .session .size) size)
+
+-- the event byte
+abbrev pub events : ℕ → Check
+events n s = eqb (s .machine .session .events) n
 
 -- the 64 marks: these, and 0 behind them
 abbrev pub marks : List ℕ → Check
@@ -336,10 +340,42 @@ example12 =
     ∷ act (program 1 0) shows (flash (paged 0x00 0xf0 ++ (paged 0xf0 0xff ++ blocks (0xff ∷ 0xff ∷ []))) ∷ [])
     ∷ []
 
--- all twelve
+-- ---- what the change requests add
+
+-- Ticket 5, the commands beside the published table: the codes that the twelve leave out. Version 0 knows 1, 2 and 9; version 1 has the flash of
+-- 0x4000 bytes and its granule of 0x1000, and not 10; RESET drops a marked window without a flush, CLOSE_WINDOW flushes it; while suspended RESET
+-- is refused, and ACK is served and may not repeat its number
+abbrev pub example13 : Example
+example13 =
+    command (3 ∷ 1 ∷ []) shows (refused 2 ∷ [])
+    ∷ command (10 ∷ 2 ∷ []) shows (refused 2 ∷ [])
+    ∷ command (1 ∷ 3 ∷ []) shows (code 1 ∷ arguments [] ∷ events 0x81 ∷ [])
+    ∷ command (9 ∷ 4 ∷ 0x01 ∷ []) shows (code 1 ∷ arguments [] ∷ events 0x80 ∷ [])
+    ∷ command (2 ∷ 5 ∷ 1 ∷ []) shows (version 1 ∷ [])
+    ∷ command (3 ∷ 6 ∷ []) shows (code 1 ∷ arguments (0x00 ∷ 0x40 ∷ 0 ∷ 0 ∷ 0x00 ∷ 0x10 ∷ 0 ∷ 0 ∷ []) ∷ [])
+    ∷ command (10 ∷ 7 ∷ []) shows (refused 2 ∷ [])
+    ∷ command (2 ∷ 8 ∷ 2 ∷ []) shows (version 2 ∷ [])
+    ∷ command (3 ∷ 9 ∷ []) shows (code 1 ∷ arguments (4 ∷ 0 ∷ 1 ∷ 0 ∷ []) ∷ [])
+    ∷ command (6 ∷ 10 ∷ 1 ∷ 0 ∷ []) shows (window Write 1 2 ∷ [])
+    ∷ command (10 ∷ 11 ∷ 1 ∷ 0 ∷ 1 ∷ 0 ∷ []) shows (code 1 ∷ marks (0 ∷ 2 ∷ []) ∷ [])
+    ∷ command (0 ∷ 12 ∷ []) shows (refused 2 ∷ window Write 1 2 ∷ marks (0 ∷ 2 ∷ []) ∷ [])
+    ∷ command (11 ∷ 13 ∷ []) shows (refused 2 ∷ window Write 1 2 ∷ marks (0 ∷ 2 ∷ []) ∷ [])
+    ∷ command (255 ∷ 14 ∷ []) shows (refused 2 ∷ window Write 1 2 ∷ marks (0 ∷ 2 ∷ []) ∷ [])
+    ∷ command (1 ∷ 15 ∷ []) shows (code 1 ∷ arguments [] ∷ actions 0 ∷ window Closed 0 0 ∷ marks [] ∷ flash (blocks (0xa0 ∷ 0xa1 ∷ 0xa2 ∷ 0xa3 ∷ [])) ∷ [])
+    ∷ command (6 ∷ 16 ∷ 1 ∷ 0 ∷ []) shows (window Write 1 2 ∷ [])
+    ∷ command (10 ∷ 17 ∷ 1 ∷ 0 ∷ 1 ∷ 0 ∷ []) shows (code 1 ∷ marks (0 ∷ 2 ∷ []) ∷ [])
+    ∷ command (5 ∷ 18 ∷ []) shows (code 1 ∷ arguments [] ∷ actions 1 ∷ window Closed 0 0 ∷ marks [] ∷ flash (blocks (0xa0 ∷ 0xa1 ∷ 0xff ∷ 0xa3 ∷ [])) ∷ [])
+    ∷ suspend shows []
+    ∷ command (1 ∷ 19 ∷ []) shows (refused 6 ∷ [])
+    ∷ command (9 ∷ 20 ∷ 0x00 ∷ []) shows (code 1 ∷ events 0xc0 ∷ [])
+    ∷ command (9 ∷ 20 ∷ 0x00 ∷ []) shows (refused 8 ∷ [])
+    ∷ []
+
+-- the twelve, and those
 unfoldable pub examples : List Example
 examples =
     example1 ∷ example2 ∷ example3 ∷ example4 ∷ example5 ∷ example6 ∷ example7 ∷ example8 ∷ example9 ∷ example10 ∷ example11 ∷ example12
+    ∷ example13
     ∷ []
 
 -- "The twelve examples are proved from the definitions by a single statement over a single list": its proof is `all-hold`, in proofs/AllHold.antt

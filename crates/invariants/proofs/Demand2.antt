@@ -10,6 +10,7 @@ use lib.ListN.{length}
 use Rattle.session.specs.declared.Session.{Session}
 use Rattle.session.specs.Machine.{Setup, lent}
 use Rattle.soundness.specs.Soundness.{sessionSound, sound, soundAt, soundIn}
+use Rattle.soundness.proofs.Facts.{measured}
 use Rattle.session.specs.Marks.{dirty}
 use Rattle.flush.specs.Window.{performIn, flushWhole}
 use Rattle.refusals.specs.declared.Reason.{Reason}
@@ -18,7 +19,7 @@ use Rattle.refusals.specs.declared.Needs.{Needs}
 use Rattle.refusals.specs.declared.Needs.the-variants.{Access}
 use Rattle.registers.specs.Registers.{commandOf, sequenceOf}
 use Rattle.refusals.specs.Refusals.{flushMarks, isPrevious, needsNumber, codeFor, reasonFor}
-use Rattle.refusals.proofs.Accepting.{passed, measured}
+use Rattle.refusals.proofs.Accepting.{passed}
 use Rattle.mailbox.specs.Commands.{Outcome, numbered, marked, flushing}
 use Rattle.mailbox.specs.Table.{Command, flush}
 use Rattle.mailbox.specs.Mediator.{commandAt, commandIn, reasonOf, reasonIn, answerTo, obeyed, mediate}

@@ -2,7 +2,7 @@
 use mathlib.Core.Path.{_≡_, refl, sym, ap, _∙_}
 use mathlib.Core.Bool.{Bool, true, false, cond, not, _&&_, false≢true}
 use mathlib.Core.List.{List}
-use mathlib.Core.Logic.{_⊎_, inl, inr, ⊎-elim}
+use mathlib.Core.Logic.{⊎-elim}
 use Prim.Native.Nat.{ℕ, _+_, _-_, _≤_, _<_, min}
 use native.Mathlib.Omega.{arith}
 use lib.Dec.{leb, eqb}
@@ -16,7 +16,7 @@ use Rattle.session.specs.declared.Window.the-variants.{Closed, Read, Write}
 use Rattle.session.specs.Machine.{Setup, lent}
 use Rattle.session.specs.Record.{clean, setBits, clearBits, withVersion, withAccess, withMarks, dropWindow, fresh}
 use Rattle.soundness.specs.Soundness.{activeSound, windowSound, markable, marksSound, sessionSound, sound, soundAt, soundIn}
-use Rattle.soundness.proofs.Facts.{refitted-at}
+use Rattle.soundness.proofs.Facts.{refitted-at, measured}
 use Rattle.session.specs.Suspension.{controlLost, windowReset, answer, suspended}
 use Rattle.session.specs.Marks.{dirty, erasedMark}
 use Rattle.refusals.specs.declared.Reason.{Reason}
@@ -24,9 +24,9 @@ use Rattle.refusals.specs.declared.Reason.the-variants.{Accepted, System, Repea
 use Rattle.registers.specs.Registers.{commandOf, argument, number}
 use Rattle.refusals.specs.declared.Needs.the-variants.{Access, WriteWindow}
 use Rattle.refusals.specs.Refusals.{blocksNamed, flushMarks, isWrite, reasonFor}
-use Rattle.refusals.proofs.Accepting.{passed, measured, named-within}
+use Rattle.refusals.proofs.Accepting.{passed, named-within}
 use Rattle.mailbox.specs.Commands.{Outcome, numbered, sizeFor, hint, marked, created, ackAnswer}
-use Rattle.mailbox.specs.Table.{Command, create, from}
+use Rattle.mailbox.specs.Table.{Command, createReadWindow, createWriteWindow, create, from}
 use Rattle.mailbox.specs.Mediator.{commandAt, commandIn, reasonOf, reasonIn, answerTo, obeyed, mediate}
 use Rattle.mailbox.proofs.Mediating.{each-command}
 use Rattle.invariants.specs.Kept.{FreshSound, CommandKeeps, AccessKeeps, FlushSound}
@@ -128,9 +128,9 @@ module _ (setup : Setup) (s : Session) (registers flash memory : List ℕ) (e : 
       (λ t a. drop-keeps)
       (λ t a. version-keeps)
       (λ t a. numbered-keeps)
-      (create-served 4 Read (λ o z. refl))
+      (create-served (createReadWindow .code) Read (λ o z. refl))
       (λ t a. drop-keeps)
-      (create-served 6 Write (λ o z. refl))
+      (create-served (createWriteWindow .code) Write (λ o z. refl))
       (marked-served (from 1 (s .version)) dirty refl)
       (λ t a. flush-keeps (flushMarks (numbered s registers) registers))
       (λ t a. fits (ackAnswer (numbered s registers) registers .session) known window marks)

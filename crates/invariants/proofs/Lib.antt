@@ -1,3 +1,4 @@
+pub mod Codes
 mod CarriedOut
 pub mod Demand2
 pub mod Kept

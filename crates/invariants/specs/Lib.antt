@@ -1,2 +1,3 @@
+pub mod Codes
 pub mod Demand2
 pub mod Kept

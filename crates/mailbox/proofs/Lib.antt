@@ -1,4 +1,5 @@
-mod Marking
+mod Creating
 pub mod Front
+mod Marking
 pub mod Mediating
 mod Refusing

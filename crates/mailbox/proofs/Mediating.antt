@@ -11,12 +11,11 @@ use Rattle.units.specs.Units.{toBytes}
 use Rattle.units.proofs.Cases.{chosen}
 use Rattle.session.specs.Machine.{Setup, Machine}
 use Rattle.soundness.specs.Soundness.{sizeSound, soundIn}
-use Rattle.soundness.proofs.Facts.{sizes, part-within}
+use Rattle.soundness.proofs.Facts.{sizes, part-within, measured}
 use Rattle.refusals.specs.declared.Reason.{Reason}
 use Rattle.refusals.specs.declared.Reason.the-variants.{Accepted}
 use Rattle.registers.specs.Registers.{commandOf}
 use Rattle.refusals.specs.Refusals.{reasonFor}
-use Rattle.refusals.proofs.Accepting.{measured}
 use Rattle.mailbox.specs.Commands.{numberedIn, refused}
 use Rattle.mailbox.specs.Table.{Command, reset, getInfo, getFlashInfo, createReadWindow, closeWindow, createWriteWindow, markDirty, flush, ack, erase, unknown}
 use Rattle.mailbox.specs.Mediator.{commandAt, reasonOf, answerTo, obeyed, commandIn, reasonIn, mediate}

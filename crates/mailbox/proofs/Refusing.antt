@@ -16,7 +16,7 @@ use Rattle.refusals.proofs.Reason.{the-type}
 use Rattle.refusals.specs.declared.Reason.{Reason}
 use Rattle.refusals.specs.declared.Reason.the-variants.{Accepted, System, Repeated, Unknown, Suspended, Windowless, Argument}
 use Rattle.refusals.specs.Refusals.{codeFor}
-use Rattle.refusals.proofs.Accepting.{no-system}
+use Rattle.refusals.proofs.Accepting.{never-system}
 use Rattle.mailbox.specs.Commands.{Outcome, outcome, numberedIn, refused}
 use Rattle.mailbox.specs.Table.{Command}
 use Rattle.mailbox.specs.Mediator.{reasonOf, answerTo, obeyed}
@@ -51,7 +51,7 @@ not-accepted r o = not-here (1 ∷ 2 ∷ 3 ∷ 4 ∷ 5 ∷ 6 ∷ []) r Accepted 
 -- nor is it SYSTEM_ERROR after the first check
 pub not-system : (c : Command) (registers : List ℕ) (m : Machine) (r : Reason) → r ≡ reasonOf c true registers m → r ≡ System → ⊥
 not-system c registers m r e q =
-    no-system (m .session) registers (c .known (m .session .version)) (c .needs) (c .broken (m .session) registers (roundUp (length (m .flash)))) (sym e ∙ q)
+    never-system (m .session) registers (c .known (m .session .version)) (c .needs) (c .broken (m .session) registers (roundUp (length (m .flash)))) (sym e ∙ q)
 
 -- ---- a refusal after the first check makes the call's number the previous one
 pub refused-as : (r : Reason) (c : Command) (setup : Setup) (registers : List ℕ) (m : Machine) → (r ≡ Accepted → ⊥) → (r ≡ System → ⊥)

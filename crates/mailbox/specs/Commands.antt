@@ -1,4 +1,4 @@
--- The commands, in the published order: document 01, "Commands". The session of each is that of an answered command: its number is the
+-- What each command leaves, in the order of document 01, "Commands". The session of each is that of an answered command: its number is the
 -- previous one already.
 use Prim.Native.Nat.{ℕ, _+_, _-_, min}
 use mathlib.Core.Bool.{cond}
@@ -54,7 +54,7 @@ numbered s registers = withPrevious (Number (sequenceOf registers)) s
 abbrev pub numberedIn : List ℕ → Machine → Machine
 numberedIn registers m = holding (numbered (m .session) registers) m
 
--- "A refusal has zero arguments and changes nothing but the previous sequence number", which its session has already
+-- "A refusal has zero arguments and changes nothing but the previous sequence number": which of the two sessions it keeps stands in `answerTo`
 abbrev pub refused : ℕ → List ℕ → Machine → Outcome
 refused code registers m = leaving (answered (m .session) registers code [] 0) m
 
@@ -93,10 +93,11 @@ abbrev pub flashInformed : List ℕ → Machine → Outcome
 flashInformed registers m = leaving (flashInfoAnswer (m .session) registers (roundUp (length (m .flash)))) m
 
 -- ---- 4 and 6, create a read or write window
--- "The size is the smallest of C, S - o and, where n is given and not 0, n"; version 1 has no hint
+-- "version 2 also 2-3 the hint n"
 abbrev pub hint : Session → List ℕ → ℕ
 hint s registers = cond (ltb (s .version) 2) 0 (number 2 2 registers)
 
+-- "The size is the smallest of C, S - o and, where n is given and not 0, n"
 abbrev pub sizeFor : ℕ → ℕ → ℕ → ℕ → ℕ
 sizeFor S C o n = cond (eqb n 0) (min C (S - o)) (min (min C (S - o)) n)
 
@@ -129,7 +130,7 @@ created window setup registers m =
 abbrev pub closed : List ℕ → Machine → Outcome
 closed registers m = closing 1 registers m
 
--- ---- 7 MARK_DIRTY
+-- ---- 7 MARK_DIRTY: the named blocks are marked dirty
 abbrev pub dirtyAnswer : Session → List ℕ → Answer
 dirtyAnswer s registers = answered (marked dirty s registers) registers 1 [] 0
 
@@ -138,7 +139,7 @@ abbrev pub flushedAll : List ℕ → Machine → Outcome
 flushedAll registers m =
     outcome (answered (withMarks clean (m .session)) registers 1 [] (flushWhole m .actions)) (flushWhole m .flash) (m .memory)
 
--- the session whose marks it flushes: at version 1 with its own
+-- the session whose marks it flushes: at version 1 with the blocks that it marks itself
 abbrev pub flushing : Session → List ℕ → Session
 flushing s registers = cond (flushMarks s registers) (marked dirty s registers) s
 

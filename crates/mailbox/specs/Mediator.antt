@@ -37,7 +37,7 @@ answerTo Suspended c setup registers m = refused (codeFor (m .session .version) 
 answerTo Windowless c setup registers m = refused (codeFor (m .session .version) Windowless) registers (numberedIn registers m)
 answerTo Argument c setup registers m = c .whenBroken (codeFor (m .session .version) Argument) registers (numberedIn registers m)
 
--- what a command leaves, refused or carried out
+-- what one command leaves, refused or carried out
 unfoldable pub obeyed : Command → Bool → Setup → List ℕ → Machine → Outcome
 obeyed c sound setup registers m = answerTo (reasonOf c sound registers m) c setup registers m
 
@@ -48,6 +48,6 @@ commandIn registers = commandAt (commandOf registers)
 abbrev pub reasonIn : Setup → List ℕ → Machine → Reason
 reasonIn setup registers m = reasonOf (commandIn registers) (soundIn setup m) registers m
 
--- what is left of what a call is given
+-- what a call leaves of what it is given
 unfoldable pub mediate : Setup → List ℕ → Machine → Outcome
 mediate setup registers m = obeyed (commandIn registers) (soundIn setup m) setup registers m

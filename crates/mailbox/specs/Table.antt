@@ -1,5 +1,6 @@
--- The published table of commands (000, "Table of Commands"), row by row in its order. What document 01 says of a command stands in its row;
--- what it leaves is defined in Commands.antt.
+-- The published table of commands (000, "Table of Commands"), the rows of versions 1 and 2 in its order: for each command all that document 01 says
+-- of it, by name. The argument rules are defined in refusals/specs/Refusals.antt, what a command leaves in Commands.antt. No other definition of the
+-- mediator has a command's code.
 use Prim.Native.Nat.{ℕ}
 use mathlib.Core.Bool.{Bool, true, false}
 use mathlib.Core.List.{List, [], _∷_}
@@ -10,11 +11,11 @@ use Rattle.session.specs.declared.Window.the-variants.{Read, Write}
 use Rattle.session.specs.Machine.{Setup, Machine}
 use Rattle.refusals.specs.declared.Needs.{Needs}
 use Rattle.refusals.specs.declared.Needs.the-variants.{Nothing, NewNumber, Access, WriteWindow}
-use Rattle.refusals.specs.Refusals.{anyArguments, noVersion, outsideFlash, outsideWindow, flushOutside}
+use Rattle.refusals.specs.Refusals.{neverBroken, noVersion, outsideFlash, outsideWindow, flushOutside}
 use Rattle.mailbox.specs.Commands.{Outcome, alone, refused, closing, resetAnswer, informed, flashInformed, created, closed, dirtyAnswer, flushed, ackAnswer, erasedOutcome}
 
--- a command: its code, the versions that know it, what it needs, its argument rule, what a refusal for that rule leaves (with the code of the
--- refusal), and what it leaves if no check refuses
+-- a command: its code, the versions that know it, what it needs, whether its argument rule is broken (of the session, the registers and S), what a
+-- refusal for that rule leaves (with the response code), and what it leaves if no check refuses
 pub record Command : Type 0 where
   pub code : ℕ
   pub known : ℕ → Bool
@@ -35,63 +36,64 @@ never version = false
 
 -- ---- the rows
 
--- 1 RESET
+-- RESET
 abbrev pub reset : Command
 reset =
-    record { code = 1; known = always; needs = Access; broken = anyArguments; whenBroken = refused; leaves = λ setup. alone resetAnswer }
+    record { code = 1; known = always; needs = Access; broken = neverBroken; whenBroken = refused; leaves = λ setup. alone resetAnswer }
 
--- 2 GET_INFO
+-- GET_INFO
 abbrev pub getInfo : Command
 getInfo = record { code = 2; known = always; needs = Nothing; broken = noVersion; whenBroken = refused; leaves = informed }
 
--- 3 GET_FLASH_INFO
+-- GET_FLASH_INFO
 abbrev pub getFlashInfo : Command
 getFlashInfo =
-    record { code = 3; known = from 1; needs = Access; broken = anyArguments; whenBroken = refused; leaves = λ setup. flashInformed }
+    record { code = 3; known = from 1; needs = Access; broken = neverBroken; whenBroken = refused; leaves = λ setup. flashInformed }
 
 -- a create of either kind: "a create refused for its argument has already closed and flushed the old window"
 abbrev pub create : ℕ → Window → Command
 create code window =
     record { code = code; known = from 1; needs = Access; broken = outsideFlash; whenBroken = closing; leaves = created window }
 
--- 4 CREATE_READ_WINDOW
+-- CREATE_READ_WINDOW
 abbrev pub createReadWindow : Command
 createReadWindow = create 4 Read
 
--- 5 CLOSE_WINDOW
+-- CLOSE_WINDOW
 abbrev pub closeWindow : Command
 closeWindow =
-    record { code = 5; known = from 1; needs = Access; broken = anyArguments; whenBroken = refused; leaves = λ setup. closed }
+    record { code = 5; known = from 1; needs = Access; broken = neverBroken; whenBroken = refused; leaves = λ setup. closed }
 
--- 6 CREATE_WRITE_WINDOW
+-- CREATE_WRITE_WINDOW
 abbrev pub createWriteWindow : Command
 createWriteWindow = create 6 Write
 
--- 7 MARK_DIRTY
+-- MARK_DIRTY
 abbrev pub markDirty : Command
 markDirty =
     record { code = 7; known = from 1; needs = WriteWindow; broken = outsideWindow; whenBroken = refused; leaves = λ setup. alone dirtyAnswer }
 
--- 8 FLUSH
+-- FLUSH
 abbrev pub flush : Command
 flush =
     record { code = 8; known = from 1; needs = WriteWindow; broken = flushOutside; whenBroken = refused; leaves = λ setup. flushed }
 
--- 9 ACK
+-- ACK
 abbrev pub ack : Command
 ack =
-    record { code = 9; known = always; needs = NewNumber; broken = anyArguments; whenBroken = refused; leaves = λ setup. alone ackAnswer }
+    record { code = 9; known = always; needs = NewNumber; broken = neverBroken; whenBroken = refused; leaves = λ setup. alone ackAnswer }
 
--- 10 ERASE
+-- ERASE
 abbrev pub erase : Command
 erase =
     record { code = 10; known = from 2; needs = WriteWindow; broken = outsideWindow; whenBroken = refused; leaves = λ setup. erasedOutcome }
 
--- the table
+-- the rows in the published order
 abbrev pub published : List Command
 published =
     reset ∷ getInfo ∷ getFlashInfo ∷ createReadWindow ∷ closeWindow ∷ createWriteWindow ∷ markDirty ∷ flush ∷ ack ∷ erase ∷ []
 
--- every other code: no version knows it, so that it is always refused
+-- every other code: no version up to 2 knows it, so that it is always refused, and what it leaves if no check refuses is never met; its own code is
+-- none of the table's
 abbrev pub unknown : Command
-unknown = record { code = 0; known = never; needs = Access; broken = anyArguments; whenBroken = refused; leaves = λ setup. refused 2 }
+unknown = record { code = 0; known = never; needs = Access; broken = neverBroken; whenBroken = refused; leaves = λ setup. refused 2 }

@@ -1,4 +1,7 @@
 // A call of the mediator as each command gets it, and its refusal.
+//
+// A command's function is called once the sizes, B and the session are sound. Beside the call it gets `known`, whether
+// the agreed version knows the command, from its arm of the decision.
 use crate::Answer;
 use crate::answers::answer;
 use refusals::Needs;
@@ -36,8 +39,8 @@ pub(crate) fn with_number(call: Call) -> Session
     with_previous(session, Previous::Number(registers[1]))
 }
 
-// A refusal after the first check, which makes the call's number the previous one. A create that is refused for its
-// argument has one of its own.
+// A refusal by a check after the first: the call's number becomes the previous one. A create that is refused for its
+// argument has its own answer, in windows.rt.
 pub(crate) fn refuse(call: Call, reason: Reason) -> Answer
     ensures { λ r. ⌜ ((c : Command) (setup : Setup) (flash memory : List ℕ) → (reason ≡ Accepted → ⊥) → (reason ≡ System → ⊥) → (reason ≡ Argument → c .whenBroken ≡ refused)
         → outcome r flash memory ≡ answerTo reason c setup (call .registers) (lent (call .session) flash memory)) ⌝ }
@@ -47,7 +50,7 @@ pub(crate) fn refuse(call: Call, reason: Reason) -> Answer
     answer(with_number(call), registers, code, NO_ARGUMENTS, 0)
 }
 
-// A code that no version knows.
+// A code that no version up to 2 knows.
 pub(crate) fn unknown(call: Call) -> Answer
     ensures { λ r. ⌜ ((flash memory : List ℕ) → outcome r flash memory ≡ obeyedBy unknown call flash memory) ⌝ }
 {

@@ -23,7 +23,7 @@ ghost use Rattle.mailbox.specs.Commands.{outcome, infoAnswer, flashInfoA
 ghost use Rattle.mailbox.specs.Table.{getInfo, getFlashInfo};
 ghost use Rattle.mailbox.specs.Calls.{obeyedBy};
 
-// GET_INFO: the host's highest version is not 0.
+// GET_INFO: agrees a version with the host, if its highest is not 0.
 pub(crate) fn get_info(call: Call, memory: &[u8]) -> Answer
     requires { ⌜ sizeSound 64 (length (now memory)) ≡ true ⌝ }
     ensures { λ r. ⌜ ((flash : List ℕ) → outcome r flash (now (memory .entry)) ≡ obeyedBy getInfo call flash (now (memory .entry))) ⌝ }
@@ -38,10 +38,11 @@ pub(crate) fn get_info(call: Call, memory: &[u8]) -> Answer
     agree(with_number(call), registers, call.board, blocks)
 }
 
-// GET_FLASH_INFO.
+// GET_FLASH_INFO: tells the flash's size and erase granule.
 pub(crate) fn get_flash_info(known: bool, call: Call, flash: &[u8]) -> Answer
-    requires { ⌜ (known ≡ getFlashInfo .known (call .session .version)) × (sizeSound 65535 (length (now flash)) ≡ true) ⌝ }
-    ensures { λ r. ⌜ ((memory : List ℕ) → outcome r (now (flash .entry)) memory ≡ obeyedBy getFlashInfo call (now (flash .entry)) memory) ⌝ }
+    requires { ⌜ sizeSound 65535 (length (now flash)) ≡ true ⌝ }
+    ensures { λ r. ⌜ ((memory : List ℕ) → known ≡ getFlashInfo .known (call .session .version)
+        → outcome r (now (flash .entry)) memory ≡ obeyedBy getFlashInfo call (now (flash .entry)) memory) ⌝ }
 {
     let session = call.session;
     let registers = call.registers;

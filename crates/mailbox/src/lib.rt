@@ -36,8 +36,8 @@ pub struct Answer {
     pub actions: u32,
 }
 
-// Serves one mailbox command: SYSTEM_ERROR first, then the published table of commands in its order, each from the
-// version that knows it.
+// Serves one mailbox command: SYSTEM_ERROR first, then the published table of commands in its order, each with the first
+// version that knows it. RESET, GET_INFO and ACK are unversioned; 11 and 12 are version 3's.
 pub fn command(
     session: Session,
     registers: [u8; 16],
@@ -48,6 +48,7 @@ pub fn command(
     ensures { λ r. ⌜ outcome r (now (flash .exit)) (now (memory .exit))
         ≡ mediate (setUp board) registers (lent session (now (flash .entry)) (now (memory .entry))) ⌝ }
 {
+    // SYSTEM_ERROR keeps the previous number
     if !is_sound_at(session, board, flash.len(), memory.len()) {
         return answer(session, registers, 4, NO_ARGUMENTS, 0);
     }

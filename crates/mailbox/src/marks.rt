@@ -29,15 +29,15 @@ ghost use Rattle.buffers.specs.Ranges.{replace};
 ghost use Rattle.units.specs.Units.{toBytes};
 ghost use Rattle.session.specs.Machine.{lent};
 ghost use Rattle.refusals.specs.Refusals.{blocksNamed, flushMarks};
-ghost use Rattle.soundness.specs.Soundness.{sound};
 ghost use Rattle.mailbox.specs.Commands.{outcome, marked, flushedAll, flushed, erasedOutcome};
 ghost use Rattle.mailbox.specs.Table.{markDirty, flush, ack, erase};
 ghost use Rattle.mailbox.specs.Calls.{obeyedBy};
 
-// MARK_DIRTY: the named blocks, which lie in the window, are marked dirty.
+// MARK_DIRTY: the named blocks are marked dirty, if they lie in the window.
 pub(crate) fn mark_dirty(known: bool, call: Call) -> Answer
-    requires { ⌜ (known ≡ markDirty .known (call .session .version)) × (call .session .size ≤ 64) ⌝ }
-    ensures { λ r. ⌜ ((flash memory : List ℕ) → outcome r flash memory ≡ obeyedBy markDirty call flash memory) ⌝ }
+    requires { ⌜ call .session .size ≤ 64 ⌝ }
+    ensures { λ r. ⌜ ((flash memory : List ℕ) → known ≡ markDirty .known (call .session .version)
+        → outcome r flash memory ≡ obeyedBy markDirty call flash memory) ⌝ }
 {
     let session = call.session;
     let registers = call.registers;
@@ -50,10 +50,11 @@ pub(crate) fn mark_dirty(known: bool, call: Call) -> Answer
     answer(next, registers, 1, NO_ARGUMENTS, 0)
 }
 
-// ERASE: the named blocks, which lie in the window, are marked erased and become FF in the window memory.
+// ERASE: the named blocks are marked erased and become FF in the window memory, if they lie in the window.
 pub(crate) fn erase(known: bool, call: Call, memory: &mut [u8]) -> Answer
-    requires { ⌜ (known ≡ erase .known (call .session .version)) × (call .session .size ≤ 64) × (toBytes (call .session .size) ≤ length (now memory)) ⌝ }
-    ensures { λ r. ⌜ ((flash : List ℕ) → outcome r flash (now (memory .exit)) ≡ obeyedBy erase call flash (now (memory .entry))) ⌝ }
+    requires { ⌜ (call .session .size ≤ 64) × (toBytes (call .session .size) ≤ length (now memory)) ⌝ }
+    ensures { λ r. ⌜ ((flash : List ℕ) → known ≡ erase .known (call .session .version)
+        → outcome r flash (now (memory .exit)) ≡ obeyedBy erase call flash (now (memory .entry))) ⌝ }
 {
     let session = call.session;
     let registers = call.registers;
@@ -65,10 +66,11 @@ pub(crate) fn erase(known: bool, call: Call, memory: &mut [u8]) -> Answer
     erase_named(with_number(call), registers, memory)
 }
 
-// FLUSH: the blocks that it marks lie in the window.
+// FLUSH: the marked blocks are flushed, if those that it marks itself lie in the window.
 pub(crate) fn flush(known: bool, call: Call, flash: &mut [u8], memory: &[u8]) -> Answer
-    requires { ⌜ (known ≡ flush .known (call .session .version)) × (call .session .size ≤ 64) ⌝ }
-    ensures { λ r. ⌜ outcome r (now (flash .exit)) (now (memory .entry)) ≡ obeyedBy flush call (now (flash .entry)) (now (memory .entry)) ⌝ }
+    requires { ⌜ call .session .size ≤ 64 ⌝ }
+    ensures { λ r. ⌜ (known ≡ flush .known (call .session .version)
+        → outcome r (now (flash .exit)) (now (memory .entry)) ≡ obeyedBy flush call (now (flash .entry)) (now (memory .entry))) ⌝ }
 {
     let session = call.session;
     let registers = call.registers;

@@ -51,10 +51,10 @@ pub(crate) fn reset(call: Call) -> Answer
     answer(next, registers, 1, NO_ARGUMENTS, 0)
 }
 
-// CLOSE_WINDOW.
+// CLOSE_WINDOW: the window is flushed and dropped.
 pub(crate) fn close_window(known: bool, call: Call, flash: &mut [u8], memory: &[u8]) -> Answer
-    requires { ⌜ known ≡ closeWindow .known (call .session .version) ⌝ }
-    ensures { λ r. ⌜ outcome r (now (flash .exit)) (now (memory .entry)) ≡ obeyedBy closeWindow call (now (flash .entry)) (now (memory .entry)) ⌝ }
+    ensures { λ r. ⌜ (known ≡ closeWindow .known (call .session .version)
+        → outcome r (now (flash .exit)) (now (memory .entry)) ≡ obeyedBy closeWindow call (now (flash .entry)) (now (memory .entry))) ⌝ }
 {
     let session = call.session;
     let registers = call.registers;
@@ -65,15 +65,17 @@ pub(crate) fn close_window(known: bool, call: Call, flash: &mut [u8], memory: &[
     close(with_number(call), registers, 1, flash, memory)
 }
 
-// CREATE_READ_WINDOW.
+// CREATE_READ_WINDOW: opens a window for reading. The creates differ in the window alone, and are two functions so that
+// the compiler puts each in its place (docs/PERFORMANCE.md).
 pub(crate) fn create_read_window(
     known: bool,
     call: Call,
     flash: &mut [u8],
     memory: &mut [u8],
 ) -> Answer
-    requires { ⌜ (known ≡ createReadWindow .known (call .session .version)) × (sizeSound 65535 (length (now flash)) ≡ true) × (sizeSound 64 (length (now memory)) ≡ true) ⌝ }
-    ensures { λ r. ⌜ outcome r (now (flash .exit)) (now (memory .exit)) ≡ obeyedBy createReadWindow call (now (flash .entry)) (now (memory .entry)) ⌝ }
+    requires { ⌜ (sizeSound 65535 (length (now flash)) ≡ true) × (sizeSound 64 (length (now memory)) ≡ true) ⌝ }
+    ensures { λ r. ⌜ (known ≡ createReadWindow .known (call .session .version)
+        → outcome r (now (flash .exit)) (now (memory .exit)) ≡ obeyedBy createReadWindow call (now (flash .entry)) (now (memory .entry))) ⌝ }
 {
     let reason = create_reason(known, call, flash.len());
     let Reason::Accepted = reason else {
@@ -90,15 +92,16 @@ pub(crate) fn create_read_window(
     )
 }
 
-// CREATE_WRITE_WINDOW.
+// CREATE_WRITE_WINDOW: opens a window for writing.
 pub(crate) fn create_write_window(
     known: bool,
     call: Call,
     flash: &mut [u8],
     memory: &mut [u8],
 ) -> Answer
-    requires { ⌜ (known ≡ createWriteWindow .known (call .session .version)) × (sizeSound 65535 (length (now flash)) ≡ true) × (sizeSound 64 (length (now memory)) ≡ true) ⌝ }
-    ensures { λ r. ⌜ outcome r (now (flash .exit)) (now (memory .exit)) ≡ obeyedBy createWriteWindow call (now (flash .entry)) (now (memory .entry)) ⌝ }
+    requires { ⌜ (sizeSound 65535 (length (now flash)) ≡ true) × (sizeSound 64 (length (now memory)) ≡ true) ⌝ }
+    ensures { λ r. ⌜ (known ≡ createWriteWindow .known (call .session .version)
+        → outcome r (now (flash .exit)) (now (memory .exit)) ≡ obeyedBy createWriteWindow call (now (flash .entry)) (now (memory .entry))) ⌝ }
 {
     let reason = create_reason(known, call, flash.len());
     let Reason::Accepted = reason else {
@@ -169,13 +172,10 @@ fn open_at(
     ensures { λ r. ⌜ outcome r (now (flash .exit)) (now (memory .exit))
         ≡ created window (setUp board) registers (lent session (now (flash .entry)) (now (memory .entry))) ⌝ }
 {
-    let first = read_words(registers).first;
-    let size = window_size(
-        flash.len(),
-        memory.len(),
-        first,
-        hinted(session.version, registers),
-    );
+    let words = read_words(registers);
+    let first = words.first;
+    let hint = late(session.version, words.second);
+    let size = window_size(flash.len(), memory.len(), first, hint);
     open_window(
         window,
         first,
@@ -188,15 +188,11 @@ fn open_at(
     )
 }
 
-// The hint, which only version 2 has.
-fn hinted(version: u8, registers: [u8; 16]) -> u16
-    ensures { λ r. ⌜ r ≡ cond (ltb version 2) 0 (number 2 2 registers) ⌝ }
+// A number that only version 2 has: the hint of a create, and the size and the place that it answers.
+fn late(version: u8, number: u16) -> u16
+    ensures { λ r. ⌜ r ≡ cond (ltb version 2) 0 number ⌝ }
 {
-    if version < 2 {
-        0
-    } else {
-        read_words(registers).second
-    }
+    if version < 2 { 0 } else { number }
 }
 
 fn least(a: u32, b: u32) -> u32
@@ -276,11 +272,4 @@ fn open_answer(session: Session, registers: [u8; 16], lpc: u16, actions: u32) ->
         [b0, b1, s0, s1, f0, f1, 0, 0, 0, 0, 0],
         actions,
     )
-}
-
-// A number of the answer, which only version 2 has.
-fn late(version: u8, number: u16) -> u16
-    ensures { λ r. ⌜ r ≡ cond (ltb version 2) 0 number ⌝ }
-{
-    if version < 2 { 0 } else { number }
 }

@@ -16,14 +16,13 @@ use Rattle.session.specs.Record.{fresh, clearBits, withVersion, withAccess}
 use Rattle.soundness.specs.Soundness.{sound, soundAt}
 use Rattle.session.specs.declared.suspension.Suspension.{Suspension}
 use Rattle.session.specs.Suspension.{controlLost, resumed}
-use Rattle.soundness.proofs.Facts.{part-within}
+use Rattle.soundness.proofs.Facts.{part-within, measured}
 use Rattle.flush.specs.Actions.{flushActions}
 use Rattle.flush.specs.Window.{windowActions, performIn}
 use Rattle.flush.proofs.Whole.{in-same, after-cut}
 use Rattle.registers.specs.Registers.{argument, number}
 use Rattle.mailbox.specs.Commands.{numbered, marked}
 use Rattle.refusals.specs.Refusals.{flushMarks}
-use Rattle.refusals.proofs.Accepting.{measured}
 use Rattle.recovery.specs.Cut.{Event, cut, start, Kept, AtCut}
 use Rattle.recovery.specs.Demand.{Demand3}
 use Rattle.recovery.specs.Second.{Way, bySteps, byFlush, Succeeds, flashAfter, agreeing, opening, SecondRun, StepsSucceed, secondEnd, secondFlash, unstopped, AddsNone, unstoppedFlash}

@@ -22,10 +22,9 @@ use Rattle.session.specs.declared.Window.the-variants.{Write}
 use Rattle.session.specs.Machine.{Setup, Machine, lent}
 use Rattle.session.specs.Record.{fresh, withVersion, withWindow}
 use Rattle.soundness.specs.Soundness.{activeSound, windowSound, markable, marksSound, sound, soundAt}
-use Rattle.soundness.proofs.Facts.{refitted-at, part-within}
+use Rattle.soundness.proofs.Facts.{refitted-at, part-within, Measured, measured}
 use Rattle.session.specs.Marks.{dirty, erasedMark}
 use Rattle.registers.specs.Registers.{sequenceOf, number}
-use Rattle.refusals.proofs.Accepting.{Measured, measured}
 use Rattle.mailbox.specs.Commands.{numbered, sizeFor}
 use Rattle.recovery.specs.Cut.{cut}
 use Rattle.recovery.specs.Recipe.{getInfo, reopen, markDirty, markErased, former, restored, restoredFrom, recipe, flushAll, ByRecipe, Recovers}

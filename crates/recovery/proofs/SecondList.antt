@@ -20,7 +20,7 @@ use Rattle.session.specs.Machine.{Setup, Machine, lent}
 use Rattle.session.specs.Marks.{dirty, erasedMark}
 use Rattle.session.specs.Record.{clean, fresh, withVersion, withMarks}
 use Rattle.soundness.specs.Soundness.{sound, sessionSound, soundIn}
-use Rattle.soundness.proofs.Facts.{part-within}
+use Rattle.soundness.proofs.Facts.{part-within, Measured, measured}
 use Rattle.flush.specs.Actions.{Action, flushActions, actionsFrom, blockActions}
 use Rattle.flush.specs.Window.{windowActions, performIn, flushWhole}
 use Rattle.flush.proofs.Whole.{in-none}
@@ -30,9 +30,9 @@ use Rattle.registers.specs.Registers.{commandOf, argument, number}
 use Rattle.refusals.specs.declared.Needs.the-variants.{Access, WriteWindow}
 use Rattle.refusals.specs.Refusals.{blocksNamed, flushMarks, reasonFor, codeFor}
 use Rattle.mailbox.specs.Commands.{Outcome, numbered, numberedIn, sizeFor, hint, marked, flushing, created, flushedAll}
-use Rattle.mailbox.specs.Table.{Command, from}
+use Rattle.mailbox.specs.Table.{Command, from, getInfo, createWriteWindow, markDirty, flush, erase}
 use Rattle.mailbox.specs.Mediator.{commandAt, commandIn, reasonOf, reasonIn, answerTo, mediate}
-use Rattle.refusals.proofs.Accepting.{Passed, passed, Measured, measured, named-within}
+use Rattle.refusals.proofs.Accepting.{Passed, passed, named-within}
 use Rattle.mailbox.proofs.Mediating.{mediate-as, each-command}
 use Rattle.mailbox.proofs.Front.{size-fits}
 use Rattle.recovery.specs.Second.{response, sent, Call, send, write, Allowed, AllAllowed, called, calledAll, begun}
@@ -124,12 +124,12 @@ flush-from : (s : Session) (registers : List ℕ) (adds : Bool) → cond adds (m
 flush-from s registers true same = ap (λ (marks : List ℕ). withMarks marks (numbered s registers)) same
 flush-from s registers false same = refl
 
-pub flush-leaves : (setup : Setup) (s : Session) (registers flash memory : List ℕ) → commandOf registers ≡ 8
+pub flush-leaves : (setup : Setup) (s : Session) (registers flash memory : List ℕ) → commandOf registers ≡ flush .code
     → getD (mediate setup registers (lent s flash memory) .registers) 13 0 ≡ 1 → flushing s registers .marks ≡ s .marks
     → sound (length flash) (length memory) s ≡ true → mediate setup registers (lent s flash memory) .machine .flash ≡ performIn s memory (windowActions s) flash
 unfolding commandAt
 flush-leaves setup s registers flash memory c ok none e =
-    ap (λ (o : Outcome). o .machine .flash) (carried setup s registers flash memory 8 c (accepted setup s registers flash memory ok))
+    ap (λ (o : Outcome). o .machine .flash) (carried setup s registers flash memory (flush .code) c (accepted setup s registers flash memory ok))
     ∙ ap (λ (t : Session). flushedAll registers (lent t flash memory) .machine .flash) (flush-from s registers (flushMarks s registers) none)
     ∙ flush-kept s registers memory flash e
 
@@ -144,19 +144,19 @@ pub record Open (first size long : ℕ) (flash : List ℕ) (m : Machine) : Type 
   pub memory-long : length (m .memory) ≡ long
 
 -- ---- GET_INFO on a fresh session
-pub info-leaves : (setup : Setup) (registers flash memory : List ℕ) → commandOf registers ≡ 2 → response setup registers (begun flash memory) ≡ 1
+pub info-leaves : (setup : Setup) (registers flash memory : List ℕ) → commandOf registers ≡ getInfo .code → response setup registers (begun flash memory) ≡ 1
     → sent setup registers (begun flash memory)
     ≡ lent (withVersion (min (argument 0 registers) 2) (numbered fresh registers)) flash memory
 unfolding commandAt
 info-leaves setup registers flash memory c ok =
-    ap (λ (o : Outcome). o .machine) (carried setup fresh registers flash memory 2 c (accepted setup fresh registers flash memory ok))
+    ap (λ (o : Outcome). o .machine) (carried setup fresh registers flash memory (getInfo .code) c (accepted setup fresh registers flash memory ok))
 
 -- ---- CREATE_WRITE_WINDOW on a session without marks
-module _ (setup : Setup) (s : Session) (registers flash memory : List ℕ) (c : commandOf registers ≡ 6)
+module _ (setup : Setup) (s : Session) (registers flash memory : List ℕ) (c : commandOf registers ≡ createWriteWindow .code)
     (ok : getD (mediate setup registers (lent s flash memory) .registers) 13 0 ≡ 1) (none : s .marks ≡ clean) where
   create-leaves : mediate setup registers (lent s flash memory) ≡ created Write setup registers (lent (numbered s registers) flash memory)
   unfolding commandAt
-  create-leaves = carried setup s registers flash memory 6 c (accepted setup s registers flash memory ok)
+  create-leaves = carried setup s registers flash memory (createWriteWindow .code) c (accepted setup s registers flash memory ok)
 
   create-flash : mediate setup registers (lent s flash memory) .machine .flash ≡ flash
   create-flash = ap (λ (o : Outcome). o .machine .flash) create-leaves ∙ flush-clean (numbered s registers) memory flash none
@@ -165,7 +165,7 @@ module _ (setup : Setup) (s : Session) (registers flash memory : List ℕ) (c : 
   unfolding commandAt
   argued =
       passed (soundIn setup (lent s flash memory)) s registers (from 1 (s .version)) Access (leb (roundUp (length flash)) (number 2 0 registers))
-      (accepted-at setup s registers flash memory 6 c ok)
+      (accepted-at setup s registers flash memory (createWriteWindow .code) c ok)
 
   create-memory : length (mediate setup registers (lent s flash memory) .machine .memory) ≡ length memory
   create-memory =
@@ -222,7 +222,7 @@ module _ (setup : Setup) (first size long : ℕ) (flash : List ℕ) (room : toBy
         memory-long = l ∙ o .memory-long;
       }
 
-  module _ (m : Machine) (o : Open first size long flash m) (registers : List ℕ) (k : ℕ) (is : commandOf registers ≡ k) (w : (k ≡ 7) ⊎ (k ≡ 10)) where
+  module _ (m : Machine) (o : Open first size long flash m) (registers : List ℕ) (k : ℕ) (is : commandOf registers ≡ k) (w : (k ≡ markDirty .code) ⊎ (k ≡ erase .code)) where
     abbrev left : Reason → Machine
     left r = answerTo r (commandIn registers) setup registers m .machine
 
@@ -247,10 +247,10 @@ module _ (setup : Setup) (first size long : ℕ) (flash : List ℕ) (room : toBy
     unfolding answerTo commandAt
     accepted-open a =
         ⊎-elim
-        (λ (e : k ≡ 7).
+        (λ (e : k ≡ markDirty .code).
         subst (λ (n : ℕ). Open first size long flash (commandAt n .leaves setup registers (numberedIn registers m) .machine)) (sym (is ∙ e))
         (marked-same dirty (m .memory) refl))
-        (λ (e : k ≡ 10).
+        (λ (e : k ≡ erase .code).
         let row = ap (λ (n : ℕ). reasonOf (commandAt n) (soundIn setup m) registers m) (sym (is ∙ e)) ∙ a in
         subst (λ (n : ℕ). Open first size long flash (commandAt n .leaves setup registers (numberedIn registers m) .machine)) (sym (is ∙ e))
         (marked-same erasedMark (erased (toBytes (blocksNamed (m .session) registers .start)) (toBytes (blocksNamed (m .session) registers .count)) (m .memory)) (named (from 2 (m .session .version)) row)))
@@ -260,8 +260,8 @@ module _ (setup : Setup) (first size long : ℕ) (flash : List ℕ) (room : toBy
     unfolding answerTo commandAt
     broken-open =
         ⊎-elim
-        (λ (e : k ≡ 7). broken-at 7 (is ∙ e) refused-same)
-        (λ (e : k ≡ 10). broken-at 10 (is ∙ e) refused-same)
+        (λ (e : k ≡ markDirty .code). broken-at (markDirty .code) (is ∙ e) refused-same)
+        (λ (e : k ≡ erase .code). broken-at (erase .code) (is ∙ e) refused-same)
         w
       where
         broken-at : (n : ℕ) → commandOf registers ≡ n

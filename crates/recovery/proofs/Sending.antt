@@ -1,11 +1,10 @@
 -- Commands of version 2 that are accepted: what each needs of the machine that it is sent to, and the machine that it leaves. Of the recipe's
 -- proof this file alone opens the mediator and the table of refusals.
 use mathlib.Core.Path.{_≡_, refl, ap, _∙_}
-use mathlib.Core.Bool.{Bool, true, false, not, _&&_, _||_, and-false}
+use mathlib.Core.Bool.{Bool, true, false, not, _&&_, and-false}
 use mathlib.Core.List.{List, [], _∷_}
 use Prim.Native.Nat.{ℕ, _+_, _*_, _/_, _%_, _≤_, _<_}
 use native.Mathlib.Omega.{arith}
-use lib.Dec.{eqb}
 use lib.ListN.{length, getD, replicate}
 use borrow.Author.Tests.{le-leb, lt-leb, ne-eqb}
 use Rattle.units.specs.Units.{blockBytes, toBytes, roundUp}
@@ -19,12 +18,12 @@ use Rattle.session.specs.Record.{fresh, withMarks, withWindow}
 use Rattle.soundness.specs.Soundness.{soundAt, soundIn}
 use Rattle.session.specs.Marks.{dirty, erasedMark}
 use Rattle.refusals.specs.declared.BlockRange.{BlockRange}
-use Rattle.refusals.specs.declared.Reason.the-variants.{Accepted}
 use Rattle.registers.specs.Registers.{commandOf, sequenceOf, number}
 use Rattle.refusals.specs.declared.Needs.the-variants.{Nothing}
 use Rattle.refusals.specs.Refusals.{blocksNamed, isPrevious, isWrite, needsNumber, needsAccess, needsWindow}
 use Rattle.refusals.proofs.Accepting.{accepts}
 use Rattle.mailbox.specs.Commands.{Outcome, numbered, numberedIn, sizeFor}
+use Rattle.mailbox.specs.Table as table
 use Rattle.mailbox.specs.Mediator.{commandAt, reasonOf, mediate}
 use Rattle.recovery.specs.Second.{response, sent, begun}
 use Rattle.recovery.specs.Recipe.{getInfo}
@@ -44,7 +43,7 @@ pub info-taken : (setup : Setup) (flash memory : List ℕ) → soundAt setup (le
 unfolding commandAt
 info-taken setup flash memory e =
     ap (λ (o : Outcome). getD (o .registers) 13 0)
-    (carried setup fresh getInfo flash memory 2 refl (accepts (soundIn setup (begun flash memory)) fresh getInfo true Nothing false
+    (carried setup fresh getInfo flash memory (table.getInfo .code) refl (accepts (soundIn setup (begun flash memory)) fresh getInfo true Nothing false
     (record { sounds = e; fresh = refl; knows = refl; awake = refl; windowed = refl; argued = refl })))
 
 -- ---- a machine that has agreed version 2 and is not suspended, and the last number that it was sent
@@ -81,10 +80,10 @@ module _ (setup : Setup) (last : ℕ) (m : Machine) (s : Serving setup last m) (
       }))
 
   -- ---- CREATE_WRITE_WINDOW at a block of the flash
-  module _ (c : commandOf registers ≡ 6) (within : number 2 0 registers < roundUp (length (m .flash))) where
-    opens : mediate setup registers m ≡ commandAt 6 .leaves setup registers (numberedIn registers m)
+  module _ (c : commandOf registers ≡ table.createWriteWindow .code) (within : number 2 0 registers < roundUp (length (m .flash))) where
+    opens : mediate setup registers m ≡ commandAt (table.createWriteWindow .code) .leaves setup registers (numberedIn registers m)
     unfolding commandAt
-    opens = taken 6 c refl refl (lt-leb (roundUp (length (m .flash))) (number 2 0 registers) within)
+    opens = taken (table.createWriteWindow .code) c refl refl (lt-leb (roundUp (length (m .flash))) (number 2 0 registers) within)
 
     pub create-taken : response setup registers m ≡ 1
     unfolding commandAt
@@ -103,20 +102,20 @@ module _ (setup : Setup) (last : ℕ) (m : Machine) (s : Serving setup last m) (
     inside : not (blocksNamed (m .session) registers .inside) ≡ false
     inside = ap (λ (r : BlockRange). not (r .inside)) named
 
-    pub dirty-sent : commandOf registers ≡ 7 → sent setup registers m ≡ markedAs m registers (replace b (dirty ∷ []) (m .session .marks)) (m .memory)
+    pub dirty-sent : commandOf registers ≡ table.markDirty .code → sent setup registers m ≡ markedAs m registers (replace b (dirty ∷ []) (m .session .marks)) (m .memory)
     unfolding commandAt
     dirty-sent c =
-        ap (λ (o : Outcome). o .machine) (taken 7 c refl (rw w) inside)
+        ap (λ (o : Outcome). o .machine) (taken (table.markDirty .code) c refl (rw w) inside)
         ∙ ap (λ (r : BlockRange). markedAs m registers (replace (r .start) (replicate (r .count) dirty) (m .session .marks)) (m .memory)) named
 
-    pub erase-sent : commandOf registers ≡ 10
+    pub erase-sent : commandOf registers ≡ table.erase .code
         → sent setup registers m ≡ markedAs m registers (replace b (erasedMark ∷ []) (m .session .marks)) (erased (toBytes b) blockBytes (m .memory))
     unfolding commandAt
     erase-sent c =
-        ap (λ (o : Outcome). o .machine) (taken 10 c refl (rw w) inside)
+        ap (λ (o : Outcome). o .machine) (taken (table.erase .code) c refl (rw w) inside)
         ∙ ap (λ (r : BlockRange). markedAs m registers (replace (r .start) (replicate (r .count) erasedMark) (m .session .marks)) (erased (toBytes (r .start)) (toBytes (r .count)) (m .memory))) named
 
   -- ---- FLUSH
-  pub flush-taken : commandOf registers ≡ 8 → m .session .window ≡ Write → response setup registers m ≡ 1
+  pub flush-taken : commandOf registers ≡ table.flush .code → m .session .window ≡ Write → response setup registers m ≡ 1
   unfolding commandAt
-  flush-taken c w = ap (λ (x : Outcome). getD (x .registers) 13 0) (taken 8 c refl (rw w) (rw (s .agreed)))
+  flush-taken c w = ap (λ (x : Outcome). getD (x .registers) 13 0) (taken (table.flush .code) c refl (rw w) (rw (s .agreed)))

@@ -1,5 +1,5 @@
 -- What a command that no check refused tells, and what its arguments then name.
-use mathlib.Core.Path.{_≡_, refl, ap}
+use mathlib.Core.Path.{_≡_, refl}
 use mathlib.Core.Bool.{Bool, true, false, cond, not, _&&_}
 use mathlib.Core.List.{List}
 use mathlib.Core.Logic.{⊎-elim}
@@ -10,9 +10,6 @@ use borrow.Author.Tests.{leb-true, not-false}
 use Rattle.units.proofs.Cases.{decided, both}
 use Rattle.units.specs.Units.{roundUp}
 use Rattle.session.specs.declared.Session.{Session}
-use Rattle.session.specs.Machine.{Setup}
-use Rattle.soundness.specs.Soundness.{sound, soundAt}
-use Rattle.soundness.proofs.Facts.{Sized, sized, sizes, Fitting, fitting}
 use Rattle.refusals.specs.declared.Reason.{Reason}
 use Rattle.refusals.specs.declared.Reason.the-variants.{Accepted, System, Repeated, Unknown, Suspended, Windowless, Argument}
 use Rattle.refusals.specs.declared.Needs.{Needs}
@@ -77,9 +74,9 @@ unfolding reasonFor
 accepts sound s registers known needs broken p = rw (p .sounds, p .fresh, p .knows, p .awake, p .windowed, p .argued)
 
 -- SYSTEM_ERROR is the first check's alone
-pub no-system : (s : Session) (registers : List ℕ) (known : Bool) (needs : Needs) (broken : Bool) → reasonFor true s registers known needs broken ≡ System → ⊥
+pub never-system : (s : Session) (registers : List ℕ) (known : Bool) (needs : Needs) (broken : Bool) → reasonFor true s registers known needs broken ≡ System → ⊥
 unfolding reasonFor
-no-system s registers known needs broken e =
+never-system s registers known needs broken e =
     past (needsNumber needs && isPrevious (s .previous) (sequenceOf registers)) Repeated _ (λ q. let z : _≡_ {A = ℕ} 0 1 = cc in omega arith)
     (past (not known) Unknown _ (λ q. let z : _≡_ {A = ℕ} 0 1 = cc in omega arith)
     (past (needsAccess needs && s .suspended) Suspended _ (λ q. let z : _≡_ {A = ℕ} 0 1 = cc in omega arith)
@@ -90,25 +87,6 @@ no-system s registers known needs broken e =
     past : (t : Bool) (r rest : Reason) → (r ≡ System → ⊥) → (rest ≡ System → ⊥) → cond t r rest ≡ System → ⊥
     past true r rest n m q = n q
     past false r rest n m q = m q
-
--- ---- the sizes
-pub record Measured (flash memory : ℕ) (s : Session) : Type 0 where
-  pub sound : sound flash memory s ≡ true
-  pub flash-sized : Sized 65535 flash
-  pub memory-sized : Sized 64 memory
-  pub fits : Fitting (roundUp flash) (roundUp memory) s
-
-pub measured : (setup : Setup) (flash memory : ℕ) (s : Session) → soundAt setup flash memory s ≡ true → Measured flash memory s
-unfolding soundAt
-measured setup flash memory s e =
-    let t = both (sound flash memory s) _ e .0 in
-    let z = sizes flash memory s t in
-    record {
-      sound = t;
-      flash-sized = sized 65535 flash (z .0);
-      memory-sized = sized 64 memory (z .1);
-      fits = fitting (roundUp flash) (roundUp memory) s (z .2);
-    }
 
 -- ---- the blocks that the arguments name lie in the window
 pub named-within : (s : Session) (registers : List ℕ) → blocksNamed s registers .inside ≡ true

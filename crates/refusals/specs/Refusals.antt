@@ -20,7 +20,7 @@ use Rattle.registers.specs.Registers.{sequenceOf, argument, number}
 
 -- "version 1: flash block a (0-1) and L bytes (2-5); L is rounded up to k blocks, and blocks a to a + k must lie between the window's first
 -- block and its end. Version 2: window block w (0-1) and k blocks (2-3), with w + k <= size. Sums are whole-number sums": whether the blocks
--- lie in the window, and which of its blocks they are
+-- lie in the window, and which of its blocks they are, if they do; whether there is a window is another check
 abbrev pub blocksNamed : Session → List ℕ → BlockRange
 blocksNamed s registers =
     cond (ltb (s .version) 2)
@@ -40,9 +40,9 @@ blocksNamed s registers =
 abbrev pub flushMarks : Session → List ℕ → Bool
 flushMarks s registers = ltb (s .version) 2 && not (eqb (number 4 2 registers) 0)
 
--- the rules, each of the session, the registers and S: whether the argument breaks it. A command without one
-abbrev pub anyArguments : Session → List ℕ → ℕ → Bool
-anyArguments s registers S = false
+-- the rules, each of the session, the registers and S: whether an argument breaks it. A command without a rule: none does
+abbrev pub neverBroken : Session → List ℕ → ℕ → Bool
+neverBroken s registers S = false
 
 -- GET_INFO: "argument 0 is the host's highest version r. r = 0 is refused"
 abbrev pub noVersion : Session → List ℕ → ℕ → Bool
@@ -52,11 +52,11 @@ noVersion s registers S = eqb (argument 0 registers) 0
 abbrev pub outsideFlash : Session → List ℕ → ℕ → Bool
 outsideFlash s registers S = leb S (number 2 0 registers)
 
--- MARK_DIRTY and ERASE: the blocks must lie in the window
+-- MARK_DIRTY and ERASE: some of the blocks lie outside the window
 abbrev pub outsideWindow : Session → List ℕ → ℕ → Bool
 outsideWindow s registers S = not (blocksNamed s registers .inside)
 
--- FLUSH: so must those that it marks
+-- FLUSH: some of those that it marks do
 abbrev pub flushOutside : Session → List ℕ → ℕ → Bool
 flushOutside s registers S = flushMarks s registers && outsideWindow s registers S
 
@@ -103,8 +103,8 @@ pub record Row : Type 0 where
   pub test : Bool
   pub reason : Reason
 
--- the table, "exactly when (and no earlier check refused)": whether the lent sizes, B and the session keep the numbers, and of the command
--- whether its version knows it, what it needs and whether its argument rule is broken
+-- the table, "exactly when (and no earlier check refused)": from whether the lent sizes, B and the session keep the numbers, and of the command
+-- whether the agreed version knows it, what it needs and whether its argument rule is broken
 abbrev pub table : Bool → Session → List ℕ → Bool → Needs → Bool → List Row
 table sound s registers known needs broken =
     record { test = not sound; reason = System }

@@ -1,4 +1,4 @@
-// The checks of the table, and the code that says which one refused.
+// The checks of the table in their order, and the response code of each.
 use crate::Needs;
 use crate::Reason;
 use session::Previous;
@@ -9,8 +9,8 @@ ghost use mathlib.Core.Bool.{true, not, cond, _&&_};
 ghost use lib.Dec.{ltb};
 ghost use Rattle.refusals.specs.Refusals.{isPrevious, isWrite, needsNumber, needsAccess, needsWindow, reasonFor, codeFor};
 
-// The first check of the table that refuses a command, once the sizes, B and the session are sound: whether its
-// version knows it, what it needs, and whether its argument rule is broken.
+// The first check of the table that refuses a command, if any, once the sizes, B and the session are sound: from whether
+// the agreed version knows it, what it needs, and whether its argument rule is broken.
 pub fn reason_for(
     session: Session,
     registers: [u8; 16],
@@ -21,17 +21,17 @@ pub fn reason_for(
     ensures { λ r. ⌜ r ≡ reasonFor true session registers known needs broken ⌝ }
 {
     let previous = session.previous;
-    if is_repeated(is_previous(previous, registers[1]), needs) {
+    if lacks_number(is_previous(previous, registers[1]), needs) {
         return Reason::Repeated;
     }
     if !known {
         return Reason::Unknown;
     }
-    if is_suspended(session.suspended, needs) {
+    if lacks_access(session.suspended, needs) {
         return Reason::Suspended;
     }
     let window = session.window;
-    if is_windowless(lacks_write(window), needs) {
+    if lacks_window(lacks_write(window), needs) {
         return Reason::Windowless;
     }
     if broken {
@@ -40,7 +40,7 @@ pub fn reason_for(
     Reason::Accepted
 }
 
-// The code of a refusal at the agreed version.
+// The response code at the agreed version.
 pub fn code_for(version: u8, reason: Reason) -> u8
     ensures { λ r. ⌜ r ≡ codeFor version reason ⌝ }
 {
@@ -84,7 +84,7 @@ fn lacks_write(window: Window) -> bool
 }
 
 // The sequence number is the previous one, and the command needs another.
-fn is_repeated(repeated: bool, needs: Needs) -> bool
+fn lacks_number(repeated: bool, needs: Needs) -> bool
     ensures { λ r. ⌜ r ≡ (needsNumber needs && repeated) ⌝ }
 {
     match needs {
@@ -96,7 +96,7 @@ fn is_repeated(repeated: bool, needs: Needs) -> bool
 }
 
 // Flash access is suspended, and the command needs it.
-fn is_suspended(suspended: bool, needs: Needs) -> bool
+fn lacks_access(suspended: bool, needs: Needs) -> bool
     ensures { λ r. ⌜ r ≡ (needsAccess needs && suspended) ⌝ }
 {
     match needs {
@@ -108,7 +108,7 @@ fn is_suspended(suspended: bool, needs: Needs) -> bool
 }
 
 // No write window is active, and the command needs one.
-fn is_windowless(windowless: bool, needs: Needs) -> bool
+fn lacks_window(windowless: bool, needs: Needs) -> bool
     ensures { λ r. ⌜ r ≡ (needsWindow needs && windowless) ⌝ }
 {
     match needs {

@@ -11,7 +11,7 @@ pub use blocks::flush_outside;
 pub use checks::code_for;
 pub use checks::reason_for;
 
-// The first check of the table that refuses a command.
+// The first check of the table that refuses a command, or that none does.
 pub enum Reason {
     Accepted,
     System,
@@ -31,7 +31,8 @@ pub enum Needs {
     WriteWindow,
 }
 
-// The window's blocks that the arguments name, and whether all of them lie in it.
+// The window's blocks that the arguments name, and whether all of them lie in it; where they do not, the blocks mean
+// nothing.
 pub struct BlockRange {
     pub inside: bool,
     pub start: u32,

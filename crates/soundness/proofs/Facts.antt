@@ -95,3 +95,22 @@ part-within flash memory s e =
     let m = sized 64 memory (t .1) in
     let w = fitting (roundUp flash) (roundUp memory) s (t .2) in
     (omega (arith, f .whole, w .in-flash), omega (arith, m .whole, w .in-memory))
+
+-- what the first check of a command tells
+pub record Measured (flash memory : ℕ) (s : Session) : Type 0 where
+  pub sound : sound flash memory s ≡ true
+  pub flash-sized : Sized 65535 flash
+  pub memory-sized : Sized 64 memory
+  pub fits : Fitting (roundUp flash) (roundUp memory) s
+
+pub measured : (setup : Setup) (flash memory : ℕ) (s : Session) → soundAt setup flash memory s ≡ true → Measured flash memory s
+unfolding soundAt
+measured setup flash memory s e =
+    let t = both (sound flash memory s) _ e .0 in
+    let z = sizes flash memory s t in
+    record {
+      sound = t;
+      flash-sized = sized 65535 flash (z .0);
+      memory-sized = sized 64 memory (z .1);
+      fits = fitting (roundUp flash) (roundUp memory) s (z .2);
+    }

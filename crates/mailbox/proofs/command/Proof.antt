@@ -6,6 +6,7 @@ use Rattle.session.specs.Machine.{setUp, lent}
 use Rattle.registers.specs.Registers.{commandOf}
 use Rattle.mailbox.specs.declared.Answer.{Answer}
 use Rattle.mailbox.specs.Commands.{leaving}
+use Rattle.mailbox.specs.Table.{reset, getInfo, getFlashInfo, createReadWindow, closeWindow, createWriteWindow, markDirty, flush, ack, erase}
 use Rattle.mailbox.specs.Mediator.{commandAt}
 use Rattle.mailbox.proofs.Mediating.{unsound-as, row-at, past-table, unknown-at, call-fits}
 use Rattle.mailbox.proofs.command.Statement.{statement}
@@ -50,7 +51,7 @@ get-flash-info-requires c κs =
     let m = lent (a .session) (a .flash .now) (a .memory .now) in
     let sound = sym (checked .before .is-sound-at .ensures) ∙ not-false _ (checked .if1 .left) in
     let f = call-fits (setUp (a .board)) m sound in
-    (refl, f .flash-sound)
+    f .flash-sound
 
 create-read-window-requires : tie.Need-create-read-window-requires
 create-read-window-requires c κs =
@@ -59,10 +60,10 @@ create-read-window-requires c κs =
     let m = lent (a .session) (a .flash .now) (a .memory .now) in
     let sound = sym (checked .before .is-sound-at .ensures) ∙ not-false _ (checked .if1 .left) in
     let f = call-fits (setUp (a .board)) m sound in
-    (refl, f .flash-sound, f .memory-sound)
+    (f .flash-sound, f .memory-sound)
 
 close-window-requires : tie.Need-close-window-requires
-close-window-requires c κs = refl
+close-window-requires c κs = search needs
 
 create-write-window-requires : tie.Need-create-write-window-requires
 create-write-window-requires c κs =
@@ -71,7 +72,7 @@ create-write-window-requires c κs =
     let m = lent (a .session) (a .flash .now) (a .memory .now) in
     let sound = sym (checked .before .is-sound-at .ensures) ∙ not-false _ (checked .if1 .left) in
     let f = call-fits (setUp (a .board)) m sound in
-    (refl, f .flash-sound, f .memory-sound)
+    (f .flash-sound, f .memory-sound)
 
 mark-dirty-requires : tie.Need-mark-dirty-requires
 mark-dirty-requires c κs =
@@ -80,7 +81,7 @@ mark-dirty-requires c κs =
     let m = lent (a .session) (a .flash .now) (a .memory .now) in
     let sound = sym (checked .before .is-sound-at .ensures) ∙ not-false _ (checked .if1 .left) in
     let f = call-fits (setUp (a .board)) m sound in
-    (refl, f .few)
+    f .few
 
 flush-requires : tie.Need-flush-requires
 flush-requires c κs =
@@ -89,7 +90,7 @@ flush-requires c κs =
     let m = lent (a .session) (a .flash .now) (a .memory .now) in
     let sound = sym (checked .before .is-sound-at .ensures) ∙ not-false _ (checked .if1 .left) in
     let f = call-fits (setUp (a .board)) m sound in
-    (refl, f .few)
+    f .few
 
 acknowledge-requires : tie.Need-acknowledge-requires
 acknowledge-requires c κs = search needs
@@ -101,7 +102,7 @@ erase-requires c κs =
     let m = lent (a .session) (a .flash .now) (a .memory .now) in
     let sound = sym (checked .before .is-sound-at .ensures) ∙ not-false _ (checked .if1 .left) in
     let f = call-fits (setUp (a .board)) m sound in
-    (refl, f .few, f .room)
+    (f .few, f .room)
 
 unknown-requires-2 : tie.Need-unknown-requires-2
 unknown-requires-2 c κs = search needs
@@ -124,7 +125,7 @@ returns-3 c =
     let m = lent (a .session) (a .flash .now) (a .memory .now) in
     let sound = sym (checked .before .is-sound-at .ensures) ∙ not-false _ (checked .if1 .left) in
     c .reset .ensures (a .flash .now) (a .memory .now)
-    ∙ row-at 1 (setUp (a .board)) (a .t2) m (c .before .match .keys2) sound
+    ∙ row-at (reset .code) (setUp (a .board)) (a .t2) m (c .before .match .keys2) sound
 
 same-length : tie.Need-same-length
 same-length c = search needs
@@ -137,7 +138,7 @@ returns-4 c =
     let m = lent (a .session) (a .flash .now) (a .memory .now) in
     let sound = sym (checked .before .is-sound-at .ensures) ∙ not-false _ (checked .if1 .left) in
     c .get-info .ensures (a .flash .now)
-    ∙ row-at 2 (setUp (a .board)) (a .t2) m (c .before .before .match .keys3) sound
+    ∙ row-at (getInfo .code) (setUp (a .board)) (a .t2) m (c .before .before .match .keys3) sound
 
 same-length-2 : tie.Need-same-length-2
 same-length-2 c = search needs
@@ -149,8 +150,8 @@ returns-5 c =
     let a = checked .before .before .before .before .args in
     let m = lent (a .session) (a .flash .now) (a .memory .now) in
     let sound = sym (checked .before .is-sound-at .ensures) ∙ not-false _ (checked .if1 .left) in
-    c .get-flash-info .ensures (a .memory .now)
-    ∙ row-at 3 (setUp (a .board)) (a .t2) m (c .before .before .match .keys4) sound
+    c .get-flash-info .ensures (a .memory .now) refl
+    ∙ row-at (getFlashInfo .code) (setUp (a .board)) (a .t2) m (c .before .before .match .keys4) sound
 
 same-length-3 : tie.Need-same-length-3
 same-length-3 c = search needs
@@ -165,8 +166,8 @@ returns-6 c =
     let a = checked .before .before .before .before .args in
     let m = lent (a .session) (a .flash .now) (a .memory .now) in
     let sound = sym (checked .before .is-sound-at .ensures) ∙ not-false _ (checked .if1 .left) in
-    c .before .before .before .before .create-read-window .ensures
-    ∙ row-at 4 (setUp (a .board)) (a .t2) m (c .before .before .before .before .before .before .before .match .keys5) sound
+    c .before .before .before .before .create-read-window .ensures refl
+    ∙ row-at (createReadWindow .code) (setUp (a .board)) (a .t2) m (c .before .before .before .before .before .before .before .match .keys5) sound
 
 same-length-5 : tie.Need-same-length-5
 same-length-5 c = search needs
@@ -181,8 +182,8 @@ returns-7 c =
     let a = checked .before .before .before .before .args in
     let m = lent (a .session) (a .flash .now) (a .memory .now) in
     let sound = sym (checked .before .is-sound-at .ensures) ∙ not-false _ (checked .if1 .left) in
-    c .before .before .close-window .ensures
-    ∙ row-at 5 (setUp (a .board)) (a .t2) m (c .before .before .before .before .before .match .keys6) sound
+    c .before .before .close-window .ensures refl
+    ∙ row-at (closeWindow .code) (setUp (a .board)) (a .t2) m (c .before .before .before .before .before .match .keys6) sound
 
 same-length-7 : tie.Need-same-length-7
 same-length-7 c = search needs
@@ -197,8 +198,8 @@ returns-8 c =
     let a = checked .before .before .before .before .args in
     let m = lent (a .session) (a .flash .now) (a .memory .now) in
     let sound = sym (checked .before .is-sound-at .ensures) ∙ not-false _ (checked .if1 .left) in
-    c .before .before .before .before .create-write-window .ensures
-    ∙ row-at 6 (setUp (a .board)) (a .t2) m (c .before .before .before .before .before .before .before .match .keys7) sound
+    c .before .before .before .before .create-write-window .ensures refl
+    ∙ row-at (createWriteWindow .code) (setUp (a .board)) (a .t2) m (c .before .before .before .before .before .before .before .match .keys7) sound
 
 returns-9 : tie.Need-returns-9
 unfolding commandAt
@@ -207,8 +208,8 @@ returns-9 c =
     let a = checked .before .before .before .before .args in
     let m = lent (a .session) (a .flash .now) (a .memory .now) in
     let sound = sym (checked .before .is-sound-at .ensures) ∙ not-false _ (checked .if1 .left) in
-    c .mark-dirty .ensures (a .flash .now) (a .memory .now)
-    ∙ row-at 7 (setUp (a .board)) (a .t2) m (c .before .match .keys8) sound
+    c .mark-dirty .ensures (a .flash .now) (a .memory .now) refl
+    ∙ row-at (markDirty .code) (setUp (a .board)) (a .t2) m (c .before .match .keys8) sound
 
 same-length-9 : tie.Need-same-length-9
 same-length-9 c = search needs
@@ -223,8 +224,8 @@ returns-10 c =
     let a = checked .before .before .before .before .args in
     let m = lent (a .session) (a .flash .now) (a .memory .now) in
     let sound = sym (checked .before .is-sound-at .ensures) ∙ not-false _ (checked .if1 .left) in
-    c .before .before .flush .ensures
-    ∙ row-at 8 (setUp (a .board)) (a .t2) m (c .before .before .before .before .before .match .keys9) sound
+    c .before .before .flush .ensures refl
+    ∙ row-at (flush .code) (setUp (a .board)) (a .t2) m (c .before .before .before .before .before .match .keys9) sound
 
 returns-11 : tie.Need-returns-11
 unfolding commandAt
@@ -234,7 +235,7 @@ returns-11 c =
     let m = lent (a .session) (a .flash .now) (a .memory .now) in
     let sound = sym (checked .before .is-sound-at .ensures) ∙ not-false _ (checked .if1 .left) in
     c .acknowledge .ensures (a .flash .now) (a .memory .now)
-    ∙ row-at 9 (setUp (a .board)) (a .t2) m (c .before .match .keys10) sound
+    ∙ row-at (ack .code) (setUp (a .board)) (a .t2) m (c .before .match .keys10) sound
 
 same-length-11 : tie.Need-same-length-11
 same-length-11 c = search needs
@@ -246,8 +247,8 @@ returns-12 c =
     let a = checked .before .before .before .before .args in
     let m = lent (a .session) (a .flash .now) (a .memory .now) in
     let sound = sym (checked .before .is-sound-at .ensures) ∙ not-false _ (checked .if1 .left) in
-    c .before .before .erase .ensures (a .flash .now)
-    ∙ row-at 10 (setUp (a .board)) (a .t2) m (c .before .before .before .before .match .keys11) sound
+    c .before .before .erase .ensures (a .flash .now) refl
+    ∙ row-at (erase .code) (setUp (a .board)) (a .t2) m (c .before .before .before .before .match .keys11) sound
 
 returns-13 : tie.Need-returns-13
 returns-13 c =

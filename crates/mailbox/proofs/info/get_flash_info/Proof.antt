@@ -28,11 +28,11 @@ refuse-requires : tie.Need-refuse-requires
 refuse-requires c κs = search needs
 
 returns : tie.Need-returns
-returns c = λ memory.
+returns c = λ memory k.
     let asked = c .before .before in
     let entered = asked .before .before .before .before in
     let call = entered .args .call in
-    let e = asked .reason-for .ensures ∙ ap (λ (k : Bool). reasonFor true (call .session) (call .registers) k Access false) (entered .pre .0) in
+    let e = asked .reason-for .ensures ∙ ap (λ (k : Bool). reasonFor true (call .session) (call .registers) k Access false) k in
     refused-left getFlashInfo (setUp (call .board)) (call .registers) (call .session) (entered .args .flash .now) memory (asked .reason-for .result) (c .refuse .result) e (c .before .match .keys2) refl (c .refuse .ensures)
 
 blocks-requires : tie.Need-blocks-requires
@@ -45,14 +45,14 @@ tell-flash-requires : tie.Need-tell-flash-requires
 tell-flash-requires c κs = search needs
 
 returns-2 : tie.Need-returns-2
-returns-2 c = λ memory.
+returns-2 c = λ memory k.
     let told = c .before .before .before in
     let asked = told .before .before in
     let entered = asked .before .before .before .before in
     let call = entered .args .call in
-    let e = asked .reason-for .ensures ∙ ap (λ (k : Bool). reasonFor true (call .session) (call .registers) k Access false) (entered .pre .0) in
+    let e = asked .reason-for .ensures ∙ ap (λ (k : Bool). reasonFor true (call .session) (call .registers) k Access false) k in
     let flash = entered .args .flash .now in
-    let blocks = c .before .before .blocks2 .ensures ∙ counted 65535 (length flash) (lit≤ tt) (sized 65535 (length flash) (entered .pre .1)) in
+    let blocks = c .before .before .blocks2 .ensures ∙ counted 65535 (length flash) (lit≤ tt) (sized 65535 (length flash) (entered .pre)) in
     ap (λ (r : Answer). outcome r flash memory)
     (c .tell-flash .ensures
     ∙ ap (λ (s : Session). flashInfoAnswer s (call .registers) (c .before .before .blocks2 .result .0)) (c .before .with-number .ensures)

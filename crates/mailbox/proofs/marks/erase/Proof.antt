@@ -31,11 +31,11 @@ refuse-requires : tie.Need-refuse-requires
 refuse-requires c κs = search needs
 
 returns : tie.Need-returns
-returns c = λ flash.
+returns c = λ flash k.
     let asked = c .before .before in
     let entered = asked .before .before .before .before .before .before in
     let call = entered .args .call in
-    let e = asked .reason-for .ensures ∙ ap (λ (k : Bool). reasonFor true (call .session) (call .registers) k WriteWindow (not (asked .before .before .blocks-named .result .inside))) (entered .pre .0)
+    let e = asked .reason-for .ensures ∙ ap (λ (k : Bool). reasonFor true (call .session) (call .registers) k WriteWindow (not (asked .before .before .blocks-named .result .inside))) k
     ∙ ap (λ (b : BlockRange). reasonFor true (call .session) (call .registers) (erase .known (call .session .version)) WriteWindow (not (b .inside))) (asked .before .before .blocks-named .ensures) in
     refused-left erase (setUp (call .board)) (call .registers) (call .session) flash (entered .args .memory .now) (asked .reason-for .result) (c .refuse .result) e (c .before .match .keys2) refl (c .refuse .ensures)
 
@@ -48,25 +48,24 @@ erase-named-requires c κs =
     let asked = told .before .before in
     let entered = asked .before .before .before .before .before .before in
     let call = entered .args .call in
-    let e = asked .reason-for .ensures ∙ ap (λ (k : Bool). reasonFor true (call .session) (call .registers) k WriteWindow (not (asked .before .before .blocks-named .result .inside))) (entered .pre .0)
-    ∙ ap (λ (b : BlockRange). reasonFor true (call .session) (call .registers) (erase .known (call .session .version)) WriteWindow (not (b .inside))) (asked .before .before .blocks-named .ensures) in
-    let p = passed true (call .session) (call .registers) (erase .known (call .session .version)) WriteWindow (not (blocksNamed (call .session) (call .registers) .inside)) (sym e ∙ told .enum-told .given .1) in
+    let e = asked .reason-for .ensures ∙ ap (λ (b : BlockRange). reasonFor true (call .session) (call .registers) (entered .args .known) WriteWindow (not (b .inside))) (asked .before .before .blocks-named .ensures) in
+    let p = passed true (call .session) (call .registers) (entered .args .known) WriteWindow (not (blocksNamed (call .session) (call .registers) .inside)) (sym e ∙ told .enum-told .given .1) in
     let next = c .before .with-number in
     let inside = not-false _ (p .argued) in (
-      named-fit (call .session) (next .result) (call .registers) 64 (next .ensures) inside (entered .pre .1),
-      named-bytes-fit (call .session) (next .result) (call .registers) (length (entered .args .memory .now)) (next .ensures) inside (entered .pre .2),
+      named-fit (call .session) (next .result) (call .registers) 64 (next .ensures) inside (entered .pre .0),
+      named-bytes-fit (call .session) (next .result) (call .registers) (length (entered .args .memory .now)) (next .ensures) inside (entered .pre .1),
     )
 
 same-length : tie.Need-same-length
 same-length c = search needs
 
 returns-2 : tie.Need-returns-2
-returns-2 c = λ flash.
+returns-2 c = λ flash k.
     let told = c .before .before .before .before .before in
     let asked = told .before .before in
     let entered = asked .before .before .before .before .before .before in
     let call = entered .args .call in
-    let e = asked .reason-for .ensures ∙ ap (λ (k : Bool). reasonFor true (call .session) (call .registers) k WriteWindow (not (asked .before .before .blocks-named .result .inside))) (entered .pre .0)
+    let e = asked .reason-for .ensures ∙ ap (λ (k : Bool). reasonFor true (call .session) (call .registers) k WriteWindow (not (asked .before .before .blocks-named .result .inside))) k
     ∙ ap (λ (b : BlockRange). reasonFor true (call .session) (call .registers) (erase .known (call .session .version)) WriteWindow (not (b .inside))) (asked .before .before .blocks-named .ensures) in
     c .before .before .erase-named .ensures flash
     ∙ ap (λ (s : Session). erasedOutcome (call .registers) (lent s flash (entered .args .memory .now))) (c .before .before .before .before .with-number .ensures)

@@ -29,11 +29,11 @@ refuse-requires : tie.Need-refuse-requires
 refuse-requires c κs = search needs
 
 returns : tie.Need-returns
-returns c =
+returns c = λ k.
     let asked = c .before .before in
     let entered = asked .before .before .before .before .before .before in
     let call = entered .args .call in
-    let e = asked .reason-for .ensures ∙ ap (λ (k : Bool). reasonFor true (call .session) (call .registers) k WriteWindow (asked .before .flush-outside .result)) (entered .pre .0)
+    let e = asked .reason-for .ensures ∙ ap (λ (k : Bool). reasonFor true (call .session) (call .registers) k WriteWindow (asked .before .flush-outside .result)) k
     ∙ ap (reasonFor true (call .session) (call .registers) (flush .known (call .session .version)) WriteWindow) (asked .before .flush-outside .ensures) in
     refused-left flush (setUp (call .board)) (call .registers) (call .session) (entered .args .flash .now) (entered .args .memory .now) (asked .reason-for .result) (c .refuse .result) e (c .before .match .keys2) refl (c .refuse .ensures)
 
@@ -46,26 +46,25 @@ flush-named-requires c κs =
     let asked = told .before .before in
     let entered = asked .before .before .before .before .before .before in
     let call = entered .args .call in
-    let e = asked .reason-for .ensures ∙ ap (λ (k : Bool). reasonFor true (call .session) (call .registers) k WriteWindow (asked .before .flush-outside .result)) (entered .pre .0)
-    ∙ ap (reasonFor true (call .session) (call .registers) (flush .known (call .session .version)) WriteWindow) (asked .before .flush-outside .ensures) in
+    let e = asked .reason-for .ensures ∙ ap (reasonFor true (call .session) (call .registers) (entered .args .known) WriteWindow) (asked .before .flush-outside .ensures) in
     let s = call .session in
     let registers = call .registers in
     let next = c .before .with-number in
-    let p = passed true s registers (flush .known (s .version)) WriteWindow (flushMarks s registers && not (blocksNamed s registers .inside)) (sym e ∙ told .enum-told .given .1) in
+    let p = passed true s registers (entered .args .known) WriteWindow (flushMarks s registers && not (blocksNamed s registers .inside)) (sym e ∙ told .enum-told .given .1) in
     λ marks.
     let adds : flushMarks s registers ≡ true = sym (ap (λ (t : Session). flushMarks t registers) (next .ensures)) ∙ marks in
-    named-fit s (next .result) registers 64 (next .ensures) (not-false (blocksNamed s registers .inside) (rw adds at (p .argued))) (entered .pre .1)
+    named-fit s (next .result) registers 64 (next .ensures) (not-false (blocksNamed s registers .inside) (rw adds at (p .argued))) (entered .pre)
 
 same-length : tie.Need-same-length
 same-length c = search needs
 
 returns-2 : tie.Need-returns-2
-returns-2 c =
+returns-2 c = λ k.
     let told = c .before .before .before .before .before in
     let asked = told .before .before in
     let entered = asked .before .before .before .before .before .before in
     let call = entered .args .call in
-    let e = asked .reason-for .ensures ∙ ap (λ (k : Bool). reasonFor true (call .session) (call .registers) k WriteWindow (asked .before .flush-outside .result)) (entered .pre .0)
+    let e = asked .reason-for .ensures ∙ ap (λ (k : Bool). reasonFor true (call .session) (call .registers) k WriteWindow (asked .before .flush-outside .result)) k
     ∙ ap (reasonFor true (call .session) (call .registers) (flush .known (call .session .version)) WriteWindow) (asked .before .flush-outside .ensures) in
     c .before .before .flush-named .ensures
     ∙ ap (λ (s : Session). flushed (call .registers) (lent s (entered .args .flash .now) (entered .args .memory .now))) (c .before .before .before .before .with-number .ensures)

@@ -33,11 +33,11 @@ refuse-requires : tie.Need-refuse-requires
 refuse-requires c κs = search needs
 
 returns : tie.Need-returns
-returns c = λ flash memory.
+returns c = λ flash memory k.
     let asked = c .before .before in
     let entered = asked .before .before .before .before .before in
     let call = entered .args .call in
-    let e = asked .reason-for .ensures ∙ ap (λ (k : Bool). reasonFor true (call .session) (call .registers) k WriteWindow (not (asked .before .before .blocks-named .result .inside))) (entered .pre .0)
+    let e = asked .reason-for .ensures ∙ ap (λ (k : Bool). reasonFor true (call .session) (call .registers) k WriteWindow (not (asked .before .before .blocks-named .result .inside))) k
     ∙ ap (λ (b : BlockRange). reasonFor true (call .session) (call .registers) (markDirty .known (call .session .version)) WriteWindow (not (b .inside))) (asked .before .before .blocks-named .ensures) in
     refused-left markDirty (setUp (call .board)) (call .registers) (call .session) flash memory (asked .reason-for .result) (c .refuse .result) e (c .before .match .keys2) refl (c .refuse .ensures)
 
@@ -50,21 +50,20 @@ mark-named-requires c κs =
     let asked = told .before .before in
     let entered = asked .before .before .before .before .before in
     let call = entered .args .call in
-    let e = asked .reason-for .ensures ∙ ap (λ (k : Bool). reasonFor true (call .session) (call .registers) k WriteWindow (not (asked .before .before .blocks-named .result .inside))) (entered .pre .0)
-    ∙ ap (λ (b : BlockRange). reasonFor true (call .session) (call .registers) (markDirty .known (call .session .version)) WriteWindow (not (b .inside))) (asked .before .before .blocks-named .ensures) in
-    let p = passed true (call .session) (call .registers) (markDirty .known (call .session .version)) WriteWindow (not (blocksNamed (call .session) (call .registers) .inside)) (sym e ∙ told .enum-told .given .1) in
-    named-fit (call .session) (c .with-number .result) (call .registers) 64 (c .with-number .ensures) (not-false _ (p .argued)) (entered .pre .1)
+    let e = asked .reason-for .ensures ∙ ap (λ (b : BlockRange). reasonFor true (call .session) (call .registers) (entered .args .known) WriteWindow (not (b .inside))) (asked .before .before .blocks-named .ensures) in
+    let p = passed true (call .session) (call .registers) (entered .args .known) WriteWindow (not (blocksNamed (call .session) (call .registers) .inside)) (sym e ∙ told .enum-told .given .1) in
+    named-fit (call .session) (c .with-number .result) (call .registers) 64 (c .with-number .ensures) (not-false _ (p .argued)) (entered .pre)
 
 answer-requires : tie.Need-answer-requires
 answer-requires c κs = search needs
 
 returns-2 : tie.Need-returns-2
-returns-2 c = λ flash memory.
+returns-2 c = λ flash memory k.
     let told = c .before .before .before in
     let asked = told .before .before in
     let entered = asked .before .before .before .before .before in
     let call = entered .args .call in
-    let e = asked .reason-for .ensures ∙ ap (λ (k : Bool). reasonFor true (call .session) (call .registers) k WriteWindow (not (asked .before .before .blocks-named .result .inside))) (entered .pre .0)
+    let e = asked .reason-for .ensures ∙ ap (λ (k : Bool). reasonFor true (call .session) (call .registers) k WriteWindow (not (asked .before .before .blocks-named .result .inside))) k
     ∙ ap (λ (b : BlockRange). reasonFor true (call .session) (call .registers) (markDirty .known (call .session .version)) WriteWindow (not (b .inside))) (asked .before .before .blocks-named .ensures) in
     ap (λ (r : Answer). outcome r flash memory)
     (c .answer .ensures

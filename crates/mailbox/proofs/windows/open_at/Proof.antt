@@ -1,8 +1,10 @@
 -- `mailbox::windows::open_at` meets its contract.
 use mathlib.Core.Path.{_≡_, ap, _∙_}
+use mathlib.Core.Bool.{cond}
 use Prim.Native.Nat.{ℕ, _-_}
 use native.Mathlib.Omega.{arith}
 use borrow.Author.Needs.{needs}
+use lib.Dec.{ltb}
 use lib.ListN.{length}
 use Rattle.units.specs.Units.{roundUp}
 use Rattle.session.specs.Machine.{setUp, lent}
@@ -15,8 +17,8 @@ use Rattle.mailbox.proofs.windows.open_at.Tie as tie
 read-words-requires : tie.Need-read-words-requires
 read-words-requires c κs = search needs
 
-hinted-requires : tie.Need-hinted-requires
-hinted-requires c κs = search needs
+late-requires : tie.Need-late-requires
+late-requires c κs = search needs
 
 window-size-requires : tie.Need-window-size-requires
 window-size-requires c κs = search needs
@@ -29,8 +31,8 @@ open-window-requires c κs =
     let first : c .before .before .before .before .read-words .result .first ≡ number 2 0 (a .registers) = c .before .before .before .before .read-words .ensures .0 in
     let size : c .before .before .window-size .result ≡ sizeFor S C (number 2 0 (a .registers)) (hint (a .session) (a .registers)) =
     c .before .before .window-size .ensures
-    ∙ ap (λ (o : ℕ). sizeFor S C o (c .before .before .before .hinted .result)) first
-    ∙ ap (sizeFor S C (number 2 0 (a .registers))) (c .before .before .before .hinted .ensures) in
+    ∙ ap (λ (o : ℕ). sizeFor S C o (c .before .before .before .late .result)) first
+    ∙ ap (sizeFor S C (number 2 0 (a .registers))) (c .before .before .before .late .ensures ∙ ap (λ (n : ℕ). cond (ltb (a .session .version) 2) 0 n) (c .before .before .before .before .read-words .ensures .1)) in
     let f = size-fits S C (number 2 0 (a .registers)) (hint (a .session) (a .registers)) (c .before .before .before .before .before .before .before .pre .0) in
     (omega (arith, first, size, f .0, c .before .before .before .before .before .before .before .pre .1 .0 .0), omega (arith, size, f .1, c .before .before .before .before .before .before .before .pre .1 .1 .0))
 
@@ -48,8 +50,8 @@ returns c =
     let first : c .before .before .before .before .before .before .before .before .before .read-words .result .first ≡ number 2 0 (a .registers) = c .before .before .before .before .before .before .before .before .before .read-words .ensures .0 in
     let size : c .before .before .before .before .before .before .before .window-size .result ≡ sizeFor S C (number 2 0 (a .registers)) (hint (a .session) (a .registers)) =
     c .before .before .before .before .before .before .before .window-size .ensures
-    ∙ ap (λ (o : ℕ). sizeFor S C o (c .before .before .before .before .before .before .before .before .hinted .result)) first
-    ∙ ap (sizeFor S C (number 2 0 (a .registers))) (c .before .before .before .before .before .before .before .before .hinted .ensures) in
+    ∙ ap (λ (o : ℕ). sizeFor S C o (c .before .before .before .before .before .before .before .before .late .result)) first
+    ∙ ap (sizeFor S C (number 2 0 (a .registers))) (c .before .before .before .before .before .before .before .before .late .ensures ∙ ap (λ (n : ℕ). cond (ltb (a .session .version) 2) 0 n) (c .before .before .before .before .before .before .before .before .before .read-words .ensures .1)) in
     let call = c .before .before .before .before .open-window in
     call .ensures ∙ opened-as (a .window) (setUp (a .board)) (a .registers) (lent (a .session) (a .flash .now) (a .memory .now)) first size
 
@@ -58,7 +60,7 @@ open-at-spec =
     tie.close
     (tie.spec
     read-words-requires
-    hinted-requires
+    late-requires
     window-size-requires
     open-window-requires
     same-length

@@ -1,8 +1,5 @@
 -- `refusals::checks::is_previous` meets its contract.
-use mathlib.Core.Path.{sym, ap}
 use borrow.Author.Needs.{needs}
-use Rattle.session.specs.declared.Previous.{Previous}
-use Rattle.refusals.specs.Refusals.{isPrevious}
 use Rattle.refusals.proofs.checks.is_previous.Statement.{statement}
 use Rattle.refusals.proofs.checks.is_previous.Tie as tie
 

@@ -13,14 +13,14 @@ array-read-is-previous c = search needs
 is-previous-requires : tie.Need-is-previous-requires
 is-previous-requires c κs = search needs
 
-is-repeated-requires : tie.Need-is-repeated-requires
-is-repeated-requires c κs = search needs
+lacks-number-requires : tie.Need-lacks-number-requires
+lacks-number-requires c κs = search needs
 
 returns : tie.Need-returns
 unfolding reasonFor
 returns c =
     let a = c .before .before .before .args in
-    rw (sym (c .before .is-repeated .ensures ∙ ap (λ (b : Bool). needsNumber (a .needs) && b) (c .before .before .is-previous .ensures)) ∙ c .if1 .taken)
+    rw (sym (c .before .lacks-number .ensures ∙ ap (λ (b : Bool). needsNumber (a .needs) && b) (c .before .before .is-previous .ensures)) ∙ c .if1 .taken)
 
 returns-2 : tie.Need-returns-2
 unfolding reasonFor
@@ -29,12 +29,12 @@ returns-2 c =
     let fresh = known .before in
     let a = fresh .before .before .before .args in
     rw (
-      sym (fresh .before .is-repeated .ensures ∙ ap (λ (b : Bool). needsNumber (a .needs) && b) (fresh .before .before .is-previous .ensures)) ∙ fresh .if1 .left,
+      sym (fresh .before .lacks-number .ensures ∙ ap (λ (b : Bool). needsNumber (a .needs) && b) (fresh .before .before .is-previous .ensures)) ∙ fresh .if1 .left,
       not-true (a .known) (known .if2 .taken),
     )
 
-is-suspended-requires : tie.Need-is-suspended-requires
-is-suspended-requires c κs = search needs
+lacks-access-requires : tie.Need-lacks-access-requires
+lacks-access-requires c κs = search needs
 
 returns-3 : tie.Need-returns-3
 unfolding reasonFor
@@ -44,16 +44,16 @@ returns-3 c =
     let fresh = known .before in
     let a = fresh .before .before .before .args in
     rw (
-      sym (fresh .before .is-repeated .ensures ∙ ap (λ (b : Bool). needsNumber (a .needs) && b) (fresh .before .before .is-previous .ensures)) ∙ fresh .if1 .left,
+      sym (fresh .before .lacks-number .ensures ∙ ap (λ (b : Bool). needsNumber (a .needs) && b) (fresh .before .before .is-previous .ensures)) ∙ fresh .if1 .left,
       not-false (a .known) (known .if2 .left),
-      sym (awake .before .is-suspended .ensures) ∙ awake .if3 .taken,
+      sym (awake .before .lacks-access .ensures) ∙ awake .if3 .taken,
     )
 
 lacks-write-requires : tie.Need-lacks-write-requires
 lacks-write-requires c κs = search needs
 
-is-windowless-requires : tie.Need-is-windowless-requires
-is-windowless-requires c κs = search needs
+lacks-window-requires : tie.Need-lacks-window-requires
+lacks-window-requires c κs = search needs
 
 returns-4 : tie.Need-returns-4
 unfolding reasonFor
@@ -64,10 +64,10 @@ returns-4 c =
     let fresh = known .before in
     let a = fresh .before .before .before .args in
     rw (
-      sym (fresh .before .is-repeated .ensures ∙ ap (λ (b : Bool). needsNumber (a .needs) && b) (fresh .before .before .is-previous .ensures)) ∙ fresh .if1 .left,
+      sym (fresh .before .lacks-number .ensures ∙ ap (λ (b : Bool). needsNumber (a .needs) && b) (fresh .before .before .is-previous .ensures)) ∙ fresh .if1 .left,
       not-false (a .known) (known .if2 .left),
-      sym (awake .before .is-suspended .ensures) ∙ awake .if3 .left,
-      sym (windowed .before .is-windowless .ensures ∙ ap (λ (b : Bool). needsWindow (a .needs) && b) (windowed .before .before .lacks-write .ensures)) ∙ windowed .if4 .taken,
+      sym (awake .before .lacks-access .ensures) ∙ awake .if3 .left,
+      sym (windowed .before .lacks-window .ensures ∙ ap (λ (b : Bool). needsWindow (a .needs) && b) (windowed .before .before .lacks-write .ensures)) ∙ windowed .if4 .taken,
     )
 
 returns-5 : tie.Need-returns-5
@@ -80,10 +80,10 @@ returns-5 c =
     let fresh = known .before in
     let a = fresh .before .before .before .args in
     rw (
-      sym (fresh .before .is-repeated .ensures ∙ ap (λ (b : Bool). needsNumber (a .needs) && b) (fresh .before .before .is-previous .ensures)) ∙ fresh .if1 .left,
+      sym (fresh .before .lacks-number .ensures ∙ ap (λ (b : Bool). needsNumber (a .needs) && b) (fresh .before .before .is-previous .ensures)) ∙ fresh .if1 .left,
       not-false (a .known) (known .if2 .left),
-      sym (awake .before .is-suspended .ensures) ∙ awake .if3 .left,
-      sym (windowed .before .is-windowless .ensures ∙ ap (λ (b : Bool). needsWindow (a .needs) && b) (windowed .before .before .lacks-write .ensures)) ∙ windowed .if4 .left,
+      sym (awake .before .lacks-access .ensures) ∙ awake .if3 .left,
+      sym (windowed .before .lacks-window .ensures ∙ ap (λ (b : Bool). needsWindow (a .needs) && b) (windowed .before .before .lacks-write .ensures)) ∙ windowed .if4 .left,
       argued .if5 .taken,
     )
 
@@ -97,10 +97,10 @@ returns-6 c =
     let fresh = known .before in
     let a = fresh .before .before .before .args in
     rw (
-      sym (fresh .before .is-repeated .ensures ∙ ap (λ (b : Bool). needsNumber (a .needs) && b) (fresh .before .before .is-previous .ensures)) ∙ fresh .if1 .left,
+      sym (fresh .before .lacks-number .ensures ∙ ap (λ (b : Bool). needsNumber (a .needs) && b) (fresh .before .before .is-previous .ensures)) ∙ fresh .if1 .left,
       not-false (a .known) (known .if2 .left),
-      sym (awake .before .is-suspended .ensures) ∙ awake .if3 .left,
-      sym (windowed .before .is-windowless .ensures ∙ ap (λ (b : Bool). needsWindow (a .needs) && b) (windowed .before .before .lacks-write .ensures)) ∙ windowed .if4 .left,
+      sym (awake .before .lacks-access .ensures) ∙ awake .if3 .left,
+      sym (windowed .before .lacks-window .ensures ∙ ap (λ (b : Bool). needsWindow (a .needs) && b) (windowed .before .before .lacks-write .ensures)) ∙ windowed .if4 .left,
       argued .if5 .left,
     )
 
@@ -110,13 +110,13 @@ reason-for-spec =
     (tie.spec
     array-read-is-previous
     is-previous-requires
-    is-repeated-requires
+    lacks-number-requires
     returns
     returns-2
-    is-suspended-requires
+    lacks-access-requires
     returns-3
     lacks-write-requires
-    is-windowless-requires
+    lacks-window-requires
     returns-4
     returns-5
     returns-6)

@@ -1,0 +1,22 @@
+-- What document 01 says of commands by their codes, with its own numbers, is what the rows of the table say. Proved in proofs/Codes.antt.
+use mathlib.Core.Path.{_≡_}
+use mathlib.Core.Bool.{Bool, cond, not, _&&_, _||_}
+use Prim.Native.Nat.{ℕ}
+use lib.Dec.{leb, eqb}
+use Rattle.refusals.specs.Refusals.{needsNumber, needsAccess, needsWindow}
+use Rattle.mailbox.specs.Mediator.{commandAt}
+
+-- "Version 0 knows 1, 2 and 9; version 1 knows 1 to 9; version 2 knows 1 to 10"
+abbrev pub knows : ℕ → ℕ → Bool
+knows version code =
+    cond (eqb version 0) (eqb code 1 || (eqb code 2 || eqb code 9)) (leb 1 code && leb code (cond (eqb version 1) 9 10))
+
+-- the claim, of every code: which versions know it, "the sequence equals the previous one, not GET_INFO" (2), "suspended and not GET_INFO or ACK"
+-- (9), "MARK_DIRTY, ERASE or FLUSH" (7, 10, 8) "without an active write window"
+abbrev pub CodesAsSaid : Type 0
+CodesAsSaid =
+    (code : ℕ)
+    → ((version : ℕ) → commandAt code .known version ≡ knows version code)
+    × (needsNumber (commandAt code .needs) ≡ not (eqb code 2))
+    × (needsAccess (commandAt code .needs) ≡ not (eqb code 2 || eqb code 9))
+    × (needsWindow (commandAt code .needs) ≡ (eqb code 7 || (eqb code 8 || eqb code 10)))
