@@ -1,4 +1,4 @@
--- The twelve examples of document 01 hold, by computation from the definitions.
+-- The examples hold, the twelve of document 01 and the tickets' own, by computation from the definitions.
 use mathlib.Core.Path.{refl}
 use Rattle.chip.specs.Actions.{erased, programmed}
 use Rattle.soundness.specs.Soundness.{sizeSound, sizesSound, sessionSound, sound, soundAt}

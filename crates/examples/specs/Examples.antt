@@ -1,5 +1,5 @@
--- The twelve examples of document 01 as data, one for a change request, and what it is for one to hold: its calls are made on the definitions, each on what the one
--- before left, and what each leaves passes the checks that 01's words ask for.
+-- The twelve examples of document 01 as data, then one for a ticket of document 02, and what it is for one to hold: its calls are made on the
+-- definitions, each on what the one before left, and what each leaves passes the checks that the papers' words ask for.
 use Prim.Native.Nat.{ℕ, zero, suc, _-_}
 use mathlib.Core.Path.{_≡_}
 use mathlib.Core.Bool.{Bool, true, false, cond, _&&_}

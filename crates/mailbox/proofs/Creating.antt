@@ -1,5 +1,5 @@
 -- A create of either kind, from what its checks, its refusal and its opening promise.
-use mathlib.Core.Path.{_≡_, ap, _∙_}
+use mathlib.Core.Path.{_≡_, refl, ap, _∙_}
 use mathlib.Core.Bool.{Bool, true}
 use mathlib.Core.List.{List, [], _∷_}
 use Prim.Native.Nat.{ℕ}
@@ -18,13 +18,13 @@ use Rattle.refusals.specs.Refusals.{outsideFlash, reasonFor}
 use Rattle.mailbox.specs.Commands.{Outcome, numbered, created}
 use Rattle.mailbox.specs.Table.{create}
 use Rattle.mailbox.specs.Mediator.{reasonOf, answerTo, obeyed}
-use Rattle.mailbox.proofs.Mediating.{refused-by, accepted-by}
+use Rattle.mailbox.proofs.Mediating.{asked-as, refused-by, accepted-by}
 use Rattle.mailbox.proofs.Refusing.{not-accepted, not-system}
 
 module _ (code : ℕ) (window : Window) (setup : Setup) (s : Session) (registers flash memory : List ℕ) (known : Bool) (r : Reason)
     (e : r ≡ reasonFor true s registers known Access (outsideFlash s registers (roundUp (length flash)))) (k : known ≡ create code window .known (s .version)) where
   asked : r ≡ reasonOf (create code window) true registers (lent s flash memory)
-  asked = e ∙ ap (λ (b : Bool). reasonFor true s registers b Access (outsideFlash s registers (roundUp (length flash)))) k
+  asked = asked-as (create code window) registers (lent s flash memory) e k refl
 
   pub create-refused : (o : Outcome) → OneOf (1 ∷ 2 ∷ 3 ∷ 4 ∷ 5 ∷ 6 ∷ []) (tagOf the-type r)
       → ((code : ℕ) (window : Window) (setup : Setup) → (r ≡ Accepted → ⊥) → (r ≡ System → ⊥) → o ≡ answerTo r (create code window) setup registers (lent s flash memory))

@@ -1,9 +1,9 @@
--- A new window: its size, and its blocks copied to the front of the window memory.
+-- A new window: its size, its blocks copied to the front of the window memory, its place checked, and the arguments of its answer.
 use mathlib.Core.Path.{_≡_, refl, sym, ap, _∙_}
 use mathlib.Core.Bool.{Bool, true, false, cond}
-use mathlib.Core.List.{List, [], _∷_, _++_}
+use mathlib.Core.List.{List, _++_}
 use mathlib.Core.Logic.{⊎-elim}
-use Prim.Native.Nat.{ℕ, _+_, _-_, _/_, _%_, _≤_, _<_}
+use Prim.Native.Nat.{ℕ, _+_, _-_, _≤_, _<_}
 use native.Mathlib.Omega.{arith}
 use lib.Dec.{leb, eqb, lit≤}
 use borrow.Author.Tests.{leb-false}
@@ -77,11 +77,7 @@ create-within s registers known flash memory e fits room =
     (leb-false (roundUp flash) (number 2 0 registers) (p .argued), ((f .whole, f .few), (m .whole, m .few)))
 
 -- ---- the arguments of its answer, of which version 1 has the first alone
-abbrev pub createBytes : ℕ → ℕ → ℕ → List ℕ
-createBytes B size o =
-    B % 256 ∷ B / 256 % 256 ∷ size % 256 ∷ size / 256 % 256 ∷ o % 256 ∷ o / 256 % 256 ∷ 0 ∷ 0 ∷ 0 ∷ 0 ∷ 0 ∷ []
-
 pub late-arguments : (early : Bool) (B size o : ℕ)
-    → createBytes B (cond early 0 size) (cond early 0 o) ≡ padded (cond early (bytesOf 2 B) (bytesOf 2 B ++ (bytesOf 2 size ++ bytesOf 2 o)))
+    → padded (bytesOf 2 B ++ (bytesOf 2 (cond early 0 size) ++ bytesOf 2 (cond early 0 o))) ≡ padded (cond early (bytesOf 2 B) (bytesOf 2 B ++ (bytesOf 2 size ++ bytesOf 2 o)))
 late-arguments true B size o = refl
 late-arguments false B size o = refl

@@ -7,7 +7,7 @@ use native.Mathlib.Nat.{le-trans}
 use lib.Dec.{eqb}
 use lib.ListN.{length}
 use borrow.Author.Tests.{eqb-true, ne-eqb}
-use Rattle.units.specs.Units.{toBytes}
+use Rattle.units.specs.Units.{toBytes, roundUp}
 use Rattle.units.proofs.Cases.{chosen}
 use Rattle.session.specs.Machine.{Setup, Machine}
 use Rattle.soundness.specs.Soundness.{sizeSound, soundIn}
@@ -19,6 +19,16 @@ use Rattle.refusals.specs.Refusals.{reasonFor}
 use Rattle.mailbox.specs.Commands.{numberedIn, refused}
 use Rattle.mailbox.specs.Table.{Command, reset, getInfo, getFlashInfo, createReadWindow, closeWindow, createWriteWindow, markDirty, flush, ack, erase, unknown}
 use Rattle.mailbox.specs.Mediator.{commandAt, reasonOf, answerTo, obeyed, commandIn, reasonIn, mediate}
+
+-- ---- the reason, by what the code was told of the row and what it found of the arguments
+pub asked-as : (c : Command) (registers : List ℕ) (m : Machine) {known broken : Bool} {r : Reason}
+    → r ≡ reasonFor true (m .session) registers known (c .needs) broken
+    → known ≡ c .known (m .session .version) → broken ≡ c .broken (m .session) registers (roundUp (length (m .flash)))
+    → r ≡ reasonOf c true registers m
+asked-as c registers m {known} {broken} {r} e k b =
+    e
+    ∙ ap (λ (t : Bool). reasonFor true (m .session) registers t (c .needs) broken) k
+    ∙ ap (reasonFor true (m .session) registers (c .known (m .session .version)) (c .needs)) b
 
 -- ---- a command, by the reason that the checks gave
 module _ (c : Command) (setup : Setup) (registers : List ℕ) (m : Machine) (r : Reason) (e : r ≡ reasonOf c true registers m) where

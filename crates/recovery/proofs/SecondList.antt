@@ -42,9 +42,6 @@ module _ (setup : Setup) (s : Session) (registers flash memory : List ℕ) where
   abbrev code : Outcome → ℕ
   code o = getD (o .registers) 13 0
 
-  reason : Reason
-  reason = reasonIn setup registers (lent s flash memory)
-
   late : (a b : ℕ) → (a ≡ 1 → ⊥) → (b ≡ 1 → ⊥) → (t : Bool) → cond t a b ≡ 1 → ⊥
   late a b p q true e = p e
   late a b p q false e = q e

@@ -41,11 +41,10 @@ pub fn blocks_named(session: Session, registers: [u8; 16]) -> BlockRange
 pub fn flush_outside(session: Session, registers: [u8; 16]) -> bool
     ensures { λ r. ⌜ r ≡ (flushMarks session registers && not (blocksNamed session registers .inside)) ⌝ }
 {
-    if flush_marks(session, registers) {
-        !blocks_named(session, registers).inside
-    } else {
-        false
+    if !flush_marks(session, registers) {
+        return false;
     }
+    !blocks_named(session, registers).inside
 }
 
 // Version 1: blocks of the flash.

@@ -1,19 +1,16 @@
 -- `mailbox::info::get_flash_info` meets its contract.
 use mathlib.Core.Path.{refl, ap, _∙_}
-use mathlib.Core.Bool.{Bool, true, false}
 use Prim.Native.Nat.{ℕ}
 use borrow.Author.Needs.{needs}
 use lib.Dec.{lit≤}
 use lib.ListN.{length}
 use Rattle.session.specs.declared.Session.{Session}
 use Rattle.soundness.proofs.Facts.{sized, counted}
-use Rattle.refusals.specs.declared.Needs.the-variants.{Access}
-use Rattle.refusals.specs.Refusals.{reasonFor}
 use Rattle.mailbox.specs.declared.Answer.{Answer}
 use Rattle.mailbox.specs.Commands.{outcome, flashInfoAnswer, numbered}
 use Rattle.mailbox.specs.Table.{getFlashInfo}
 use Rattle.session.specs.Machine.{setUp, lent}
-use Rattle.mailbox.proofs.Mediating.{accepted-by}
+use Rattle.mailbox.proofs.Mediating.{asked-as, accepted-by}
 use Rattle.mailbox.proofs.Refusing.{refused-left}
 use Rattle.mailbox.proofs.info.get_flash_info.Statement.{statement}
 use Rattle.mailbox.proofs.info.get_flash_info.Tie as tie
@@ -32,7 +29,7 @@ returns c = λ memory k.
     let asked = c .before .before in
     let entered = asked .before .before .before .before in
     let call = entered .args .call in
-    let e = asked .reason-for .ensures ∙ ap (λ (k : Bool). reasonFor true (call .session) (call .registers) k Access false) k in
+    let e = asked-as getFlashInfo (call .registers) (lent (call .session) (entered .args .flash .now) memory) (asked .reason-for .ensures) k refl in
     refused-left getFlashInfo (setUp (call .board)) (call .registers) (call .session) (entered .args .flash .now) memory (asked .reason-for .result) (c .refuse .result) e (c .before .match .keys2) refl (c .refuse .ensures)
 
 blocks-requires : tie.Need-blocks-requires
@@ -50,7 +47,7 @@ returns-2 c = λ memory k.
     let asked = told .before .before in
     let entered = asked .before .before .before .before in
     let call = entered .args .call in
-    let e = asked .reason-for .ensures ∙ ap (λ (k : Bool). reasonFor true (call .session) (call .registers) k Access false) k in
+    let e = asked-as getFlashInfo (call .registers) (lent (call .session) (entered .args .flash .now) memory) (asked .reason-for .ensures) k refl in
     let flash = entered .args .flash .now in
     let blocks = c .before .before .blocks2 .ensures ∙ counted 65535 (length flash) (lit≤ tt) (sized 65535 (length flash) (entered .pre)) in
     ap (λ (r : Answer). outcome r flash memory)

@@ -1,6 +1,6 @@
 -- `mailbox::marks::erase` meets its contract.
 use mathlib.Core.Path.{refl, sym, ap, _∙_}
-use mathlib.Core.Bool.{Bool, true, not}
+use mathlib.Core.Bool.{true, not}
 use borrow.Author.Needs.{needs}
 use borrow.Author.Tests.{not-false}
 use lib.ListN.{length}
@@ -13,7 +13,7 @@ use Rattle.mailbox.specs.Commands.{erasedOutcome}
 use Rattle.mailbox.specs.Table.{erase}
 use Rattle.mailbox.proofs.Marking.{named-fit, named-bytes-fit}
 use Rattle.session.specs.Machine.{setUp, lent}
-use Rattle.mailbox.proofs.Mediating.{accepted-by}
+use Rattle.mailbox.proofs.Mediating.{asked-as, accepted-by}
 use Rattle.mailbox.proofs.Refusing.{refused-left}
 use Rattle.mailbox.proofs.marks.erase.Statement.{statement}
 use Rattle.mailbox.proofs.marks.erase.Tie as tie
@@ -35,8 +35,7 @@ returns c = λ flash k.
     let asked = c .before .before in
     let entered = asked .before .before .before .before .before .before in
     let call = entered .args .call in
-    let e = asked .reason-for .ensures ∙ ap (λ (k : Bool). reasonFor true (call .session) (call .registers) k WriteWindow (not (asked .before .before .blocks-named .result .inside))) k
-    ∙ ap (λ (b : BlockRange). reasonFor true (call .session) (call .registers) (erase .known (call .session .version)) WriteWindow (not (b .inside))) (asked .before .before .blocks-named .ensures) in
+    let e = asked-as erase (call .registers) (lent (call .session) flash (entered .args .memory .now)) (asked .reason-for .ensures) k (ap (λ (b : BlockRange). not (b .inside)) (asked .before .before .blocks-named .ensures)) in
     refused-left erase (setUp (call .board)) (call .registers) (call .session) flash (entered .args .memory .now) (asked .reason-for .result) (c .refuse .result) e (c .before .match .keys2) refl (c .refuse .ensures)
 
 with-number-requires : tie.Need-with-number-requires
@@ -65,8 +64,7 @@ returns-2 c = λ flash k.
     let asked = told .before .before in
     let entered = asked .before .before .before .before .before .before in
     let call = entered .args .call in
-    let e = asked .reason-for .ensures ∙ ap (λ (k : Bool). reasonFor true (call .session) (call .registers) k WriteWindow (not (asked .before .before .blocks-named .result .inside))) k
-    ∙ ap (λ (b : BlockRange). reasonFor true (call .session) (call .registers) (erase .known (call .session .version)) WriteWindow (not (b .inside))) (asked .before .before .blocks-named .ensures) in
+    let e = asked-as erase (call .registers) (lent (call .session) flash (entered .args .memory .now)) (asked .reason-for .ensures) k (ap (λ (b : BlockRange). not (b .inside)) (asked .before .before .blocks-named .ensures)) in
     c .before .before .erase-named .ensures flash
     ∙ ap (λ (s : Session). erasedOutcome (call .registers) (lent s flash (entered .args .memory .now))) (c .before .before .before .before .with-number .ensures)
     ∙ accepted-by erase (setUp (call .board)) (call .registers) (lent (call .session) flash (entered .args .memory .now)) (asked .reason-for .result) e (told .enum-told .given .1)

@@ -1,6 +1,6 @@
 -- `mailbox::marks::flush` meets its contract.
 use mathlib.Core.Path.{_≡_, refl, sym, ap, _∙_}
-use mathlib.Core.Bool.{Bool, true, not, _&&_}
+use mathlib.Core.Bool.{true, not, _&&_}
 use borrow.Author.Needs.{needs}
 use borrow.Author.Tests.{not-false}
 use Rattle.session.specs.declared.Session.{Session}
@@ -11,7 +11,7 @@ use Rattle.mailbox.specs.Commands.{flushed}
 use Rattle.mailbox.specs.Table.{flush}
 use Rattle.mailbox.proofs.Marking.{named-fit}
 use Rattle.session.specs.Machine.{setUp, lent}
-use Rattle.mailbox.proofs.Mediating.{accepted-by}
+use Rattle.mailbox.proofs.Mediating.{asked-as, accepted-by}
 use Rattle.mailbox.proofs.Refusing.{refused-left}
 use Rattle.mailbox.proofs.marks.flush.Statement.{statement}
 use Rattle.mailbox.proofs.marks.flush.Tie as tie
@@ -33,8 +33,7 @@ returns c = λ k.
     let asked = c .before .before in
     let entered = asked .before .before .before .before .before .before in
     let call = entered .args .call in
-    let e = asked .reason-for .ensures ∙ ap (λ (k : Bool). reasonFor true (call .session) (call .registers) k WriteWindow (asked .before .flush-outside .result)) k
-    ∙ ap (reasonFor true (call .session) (call .registers) (flush .known (call .session .version)) WriteWindow) (asked .before .flush-outside .ensures) in
+    let e = asked-as flush (call .registers) (lent (call .session) (entered .args .flash .now) (entered .args .memory .now)) (asked .reason-for .ensures) k (asked .before .flush-outside .ensures) in
     refused-left flush (setUp (call .board)) (call .registers) (call .session) (entered .args .flash .now) (entered .args .memory .now) (asked .reason-for .result) (c .refuse .result) e (c .before .match .keys2) refl (c .refuse .ensures)
 
 with-number-requires : tie.Need-with-number-requires
@@ -64,8 +63,7 @@ returns-2 c = λ k.
     let asked = told .before .before in
     let entered = asked .before .before .before .before .before .before in
     let call = entered .args .call in
-    let e = asked .reason-for .ensures ∙ ap (λ (k : Bool). reasonFor true (call .session) (call .registers) k WriteWindow (asked .before .flush-outside .result)) k
-    ∙ ap (reasonFor true (call .session) (call .registers) (flush .known (call .session .version)) WriteWindow) (asked .before .flush-outside .ensures) in
+    let e = asked-as flush (call .registers) (lent (call .session) (entered .args .flash .now) (entered .args .memory .now)) (asked .reason-for .ensures) k (asked .before .flush-outside .ensures) in
     c .before .before .flush-named .ensures
     ∙ ap (λ (s : Session). flushed (call .registers) (lent s (entered .args .flash .now) (entered .args .memory .now))) (c .before .before .before .before .with-number .ensures)
     ∙ accepted-by flush (setUp (call .board)) (call .registers) (lent (call .session) (entered .args .flash .now) (entered .args .memory .now)) (asked .reason-for .result) e (told .enum-told .given .1)

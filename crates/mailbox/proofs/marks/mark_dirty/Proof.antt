@@ -1,6 +1,6 @@
 -- `mailbox::marks::mark_dirty` meets its contract.
 use mathlib.Core.Path.{refl, sym, ap, _∙_}
-use mathlib.Core.Bool.{Bool, true, not}
+use mathlib.Core.Bool.{true, not}
 use borrow.Author.Needs.{needs}
 use borrow.Author.Tests.{not-false}
 use mathlib.Core.List.{[]}
@@ -15,7 +15,7 @@ use Rattle.mailbox.specs.Commands.{outcome, answered, marked}
 use Rattle.mailbox.specs.Table.{markDirty}
 use Rattle.mailbox.proofs.Marking.{named-fit}
 use Rattle.session.specs.Machine.{setUp, lent}
-use Rattle.mailbox.proofs.Mediating.{accepted-by}
+use Rattle.mailbox.proofs.Mediating.{asked-as, accepted-by}
 use Rattle.mailbox.proofs.Refusing.{refused-left}
 use Rattle.mailbox.proofs.marks.mark_dirty.Statement.{statement}
 use Rattle.mailbox.proofs.marks.mark_dirty.Tie as tie
@@ -37,8 +37,7 @@ returns c = λ flash memory k.
     let asked = c .before .before in
     let entered = asked .before .before .before .before .before in
     let call = entered .args .call in
-    let e = asked .reason-for .ensures ∙ ap (λ (k : Bool). reasonFor true (call .session) (call .registers) k WriteWindow (not (asked .before .before .blocks-named .result .inside))) k
-    ∙ ap (λ (b : BlockRange). reasonFor true (call .session) (call .registers) (markDirty .known (call .session .version)) WriteWindow (not (b .inside))) (asked .before .before .blocks-named .ensures) in
+    let e = asked-as markDirty (call .registers) (lent (call .session) flash memory) (asked .reason-for .ensures) k (ap (λ (b : BlockRange). not (b .inside)) (asked .before .before .blocks-named .ensures)) in
     refused-left markDirty (setUp (call .board)) (call .registers) (call .session) flash memory (asked .reason-for .result) (c .refuse .result) e (c .before .match .keys2) refl (c .refuse .ensures)
 
 with-number-requires : tie.Need-with-number-requires
@@ -63,8 +62,7 @@ returns-2 c = λ flash memory k.
     let asked = told .before .before in
     let entered = asked .before .before .before .before .before in
     let call = entered .args .call in
-    let e = asked .reason-for .ensures ∙ ap (λ (k : Bool). reasonFor true (call .session) (call .registers) k WriteWindow (not (asked .before .before .blocks-named .result .inside))) k
-    ∙ ap (λ (b : BlockRange). reasonFor true (call .session) (call .registers) (markDirty .known (call .session .version)) WriteWindow (not (b .inside))) (asked .before .before .blocks-named .ensures) in
+    let e = asked-as markDirty (call .registers) (lent (call .session) flash memory) (asked .reason-for .ensures) k (ap (λ (b : BlockRange). not (b .inside)) (asked .before .before .blocks-named .ensures)) in
     ap (λ (r : Answer). outcome r flash memory)
     (c .answer .ensures
     ∙ ap (λ (s : Session). answered s (call .registers) 1 [] 0)

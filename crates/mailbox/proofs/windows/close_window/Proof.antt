@@ -1,14 +1,11 @@
 -- `mailbox::windows::close_window` meets its contract.
 use mathlib.Core.Path.{refl, ap, _∙_}
-use mathlib.Core.Bool.{Bool, true, false}
 use borrow.Author.Needs.{needs}
 use Rattle.session.specs.declared.Session.{Session}
-use Rattle.refusals.specs.declared.Needs.the-variants.{Access}
-use Rattle.refusals.specs.Refusals.{reasonFor}
 use Rattle.mailbox.specs.Commands.{closed}
 use Rattle.mailbox.specs.Table.{closeWindow}
 use Rattle.session.specs.Machine.{setUp, lent}
-use Rattle.mailbox.proofs.Mediating.{accepted-by}
+use Rattle.mailbox.proofs.Mediating.{asked-as, accepted-by}
 use Rattle.mailbox.proofs.Refusing.{refused-left}
 use Rattle.mailbox.proofs.windows.close_window.Statement.{statement}
 use Rattle.mailbox.proofs.windows.close_window.Tie as tie
@@ -27,7 +24,7 @@ returns c = λ k.
     let asked = c .before .before in
     let entered = asked .before .before .before .before .before in
     let call = entered .args .call in
-    let e = asked .reason-for .ensures ∙ ap (λ (k : Bool). reasonFor true (call .session) (call .registers) k Access false) k in
+    let e = asked-as closeWindow (call .registers) (lent (call .session) (entered .args .flash .now) (entered .args .memory .now)) (asked .reason-for .ensures) k refl in
     refused-left closeWindow (setUp (call .board)) (call .registers) (call .session) (entered .args .flash .now) (entered .args .memory .now) (asked .reason-for .result) (c .refuse .result) e (c .before .match .keys2) refl (c .refuse .ensures)
 
 with-number-requires : tie.Need-with-number-requires
@@ -45,7 +42,7 @@ returns-2 c = λ k.
     let asked = told .before .before in
     let entered = asked .before .before .before .before .before in
     let call = entered .args .call in
-    let e = asked .reason-for .ensures ∙ ap (λ (k : Bool). reasonFor true (call .session) (call .registers) k Access false) k in
+    let e = asked-as closeWindow (call .registers) (lent (call .session) (entered .args .flash .now) (entered .args .memory .now)) (asked .reason-for .ensures) k refl in
     c .before .before .close .ensures
     ∙ ap (λ (s : Session). closed (call .registers) (lent s (entered .args .flash .now) (entered .args .memory .now))) (c .before .before .before .before .with-number .ensures)
     ∙ accepted-by closeWindow (setUp (call .board)) (call .registers) (lent (call .session) (entered .args .flash .now) (entered .args .memory .now)) (asked .reason-for .result) e (told .enum-told .given .1)

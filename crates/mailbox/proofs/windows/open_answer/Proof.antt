@@ -1,12 +1,13 @@
 -- `mailbox::windows::open_answer` meets its contract.
 use mathlib.Core.Path.{ap, _∙_}
 use mathlib.Core.Bool.{cond}
-use mathlib.Core.List.{List}
+use mathlib.Core.List.{List, _++_}
 use Prim.Native.Nat.{ℕ}
 use borrow.Author.Needs.{needs}
 use lib.Dec.{ltb}
-use Rattle.mailbox.specs.Commands.{answerWith}
-use Rattle.mailbox.proofs.Front.{createBytes, late-arguments}
+use Rattle.registers.specs.Registers.{bytesOf}
+use Rattle.mailbox.specs.Commands.{answerWith, answered}
+use Rattle.mailbox.proofs.Front.{late-arguments}
 use Rattle.mailbox.proofs.windows.open_answer.Statement.{statement}
 use Rattle.mailbox.proofs.windows.open_answer.Tie as tie
 
@@ -43,8 +44,8 @@ returns c =
     let s = a .session in
     let early = ltb (s .version) 2 in
     c .answer .ensures
-    ∙ ap (λ (n : ℕ). answerWith s (a .registers) 1 (createBytes (a .lpc) n (c .before .late2 .result)) (a .actions)) (c .before .before .late .ensures)
-    ∙ ap (λ (n : ℕ). answerWith s (a .registers) 1 (createBytes (a .lpc) (cond early 0 (s .size)) n) (a .actions)) (c .before .late2 .ensures)
+    ∙ ap (λ (n : ℕ). answered s (a .registers) 1 (bytesOf 2 (a .lpc) ++ (bytesOf 2 n ++ bytesOf 2 (c .before .late2 .result))) (a .actions)) (c .before .before .late .ensures)
+    ∙ ap (λ (n : ℕ). answered s (a .registers) 1 (bytesOf 2 (a .lpc) ++ (bytesOf 2 (cond early 0 (s .size)) ++ bytesOf 2 n)) (a .actions)) (c .before .late2 .ensures)
     ∙ ap (λ (arguments : List ℕ). answerWith s (a .registers) 1 arguments (a .actions)) (late-arguments early (a .lpc) (s .size) (s .first))
 
 pub open-answer-spec : {M : Type 1} → statement M
