@@ -14,24 +14,25 @@ use Rattle.session.specs.declared.Session.{Session}
 use Rattle.session.specs.declared.Window.{Window}
 use Rattle.session.specs.declared.Window.the-variants.{Closed, Read, Write}
 use Rattle.session.specs.Machine.{Setup, lent}
-use Rattle.session.specs.Record.{clean, setBits, clearBits, withVersion, withAccess, withMarks, dropWindow, fresh}
-use Rattle.soundness.specs.Soundness.{activeSound, windowSound, markable, marksSound, sessionSound, sound, soundAt, soundIn}
-use Rattle.soundness.proofs.Facts.{refitted-at, measured}
-use Rattle.session.specs.Suspension.{controlLost, windowReset, answer, suspended}
+use Rattle.session.specs.Record.{clean, withVersion, withMarks, dropWindow, fresh}
+use Rattle.soundness.specs.Soundness.{accessSound, activeSound, windowSound, markable, marksSound, sessionSound, sound, soundAt, soundIn}
+use Rattle.soundness.proofs.Access.{acknowledged-access, suspended-sound, resumed-sound, changed-sound}
+use Rattle.soundness.proofs.Facts.{sound-with, refitted-at, measured}
+use Rattle.soundness.proofs.SoundMarks.{clean-sound}
+use Rattle.session.specs.Suspension.{suspended, resumed, resumedChanged}
 use Rattle.session.specs.Marks.{dirty, erasedMark}
-use Rattle.refusals.specs.declared.Reason.{Reason}
-use Rattle.refusals.specs.declared.Reason.the-variants.{Accepted, System, Repeated, Unknown, Suspended, Windowless, Argument}
+use Rattle.refusals.specs.declared.Reason.the-variants.{Accepted}
 use Rattle.registers.specs.Registers.{commandOf, argument, number}
 use Rattle.refusals.specs.declared.Needs.the-variants.{Access, WriteWindow}
 use Rattle.refusals.specs.Refusals.{blocksNamed, flushMarks, isWrite, reasonFor}
 use Rattle.refusals.proofs.Accepting.{passed, named-within}
 use Rattle.mailbox.specs.Commands.{Outcome, numbered, sizeFor, hint, marked, created, ackAnswer}
 use Rattle.mailbox.specs.Table.{Command, createReadWindow, createWriteWindow, create, from}
-use Rattle.mailbox.specs.Mediator.{commandAt, commandIn, reasonOf, reasonIn, answerTo, obeyed, mediate}
-use Rattle.mailbox.proofs.Mediating.{each-command}
+use Rattle.mailbox.specs.Mediator.{commandAt, reasonOf}
+use Rattle.mailbox.proofs.Mediating.{each-command, each-answer}
 use Rattle.invariants.specs.Kept.{FreshSound, CommandKeeps, AccessKeeps, FlushSound}
 use Rattle.mailbox.proofs.Front.{size-fits}
-use Rattle.invariants.proofs.MarksKept.{clean-sound, marked-sound}
+use Rattle.invariants.proofs.MarksKept.{marked-sound}
 
 write-is : (w : Window) → isWrite w ≡ true → w ≡ Write
 write-is Closed e = absurd (false≢true e)
@@ -53,12 +54,15 @@ module _ (setup : Setup) (s : Session) (registers flash memory : List ℕ) (e : 
   abbrev Keeps : Outcome → Type 0
   Keeps o = soundAt setup (length flash) (length memory) (o .machine .session) ≡ true
 
-  fits : (t : Session) → t .version ≤ 2 → windowSound (t .window) (t .first) (t .size) (roundUp (length flash)) (roundUp (length memory)) ≡ true
+  fits : (t : Session) → t .version ≤ 2 → accessSound (t .suspended) (t .events) ≡ true → windowSound (t .window) (t .first) (t .size) (roundUp (length flash)) (roundUp (length memory)) ≡ true
       → marksSound (markable (t .window) (t .size)) (t .marks) ≡ true → soundAt setup (length flash) (length memory) t ≡ true
-  fits t v w m = refitted-at setup (length flash) (length memory) s t e v w m
+  fits t v a w m = refitted-at setup (length flash) (length memory) s t e v a w m
 
   known : s .version ≤ 2
   known = measured setup (length flash) (length memory) s e .fits .known
+
+  access : accessSound (s .suspended) (s .events) ≡ true
+  access = measured setup (length flash) (length memory) s e .fits .access
 
   window : windowSound (s .window) (s .first) (s .size) (roundUp (length flash)) (roundUp (length memory)) ≡ true
   window = measured setup (length flash) (length memory) s e .fits .window
@@ -77,7 +81,7 @@ module _ (setup : Setup) (s : Session) (registers flash memory : List ℕ) (e : 
       let n = hint (numbered s registers) registers in
       let z = sizeFor (roundUp (length flash)) (roundUp (length memory)) o n in
       let f = size-fits (roundUp (length flash)) (roundUp (length memory)) o n h in
-      fits (created w setup registers (lent (numbered s registers) flash memory) .machine .session) known
+      fits (created w setup registers (lent (numbered s registers) flash memory) .machine .session) known access
       (active o z ∙ rw (le-leb 1 z (size-some (roundUp (length flash)) (roundUp (length memory)) o n h some), le-leb z (roundUp (length memory)) (f .1), le-leb (o + z) (roundUp (length flash)) (f .0)))
       (clean-sound (markable w z) 64)
 
@@ -86,24 +90,24 @@ module _ (setup : Setup) (s : Session) (registers flash memory : List ℕ) (e : 
       → soundAt setup (length flash) (length memory) (marked mark (numbered s registers) registers) ≡ true
   marked-keeps mark fine w inside =
       let limit : markable (s .window) (s .size) ≡ s .size = ap (λ (k : Window). markable k (s .size)) w in
-      fits (marked mark (numbered s registers) registers) known window
+      fits (marked mark (numbered s registers) registers) known access window
       (ap (λ (n : ℕ). marksSound n (marked mark (numbered s registers) registers .marks)) limit
       ∙ marked-sound mark fine (s .size) (blocksNamed s registers .start) (blocksNamed s registers .count) (s .marks) (named-within s registers inside) (ap (λ (n : ℕ). marksSound n (s .marks)) (sym limit) ∙ marks))
 
   -- a FLUSH, with or without marks of its own
   flush-keeps : (adds : Bool)
       → soundAt setup (length flash) (length memory) (withMarks clean (cond adds (marked dirty (numbered s registers) registers) (numbered s registers))) ≡ true
-  flush-keeps true = fits (withMarks clean (numbered s registers)) known window (clean-sound (markable (s .window) (s .size)) 64)
-  flush-keeps false = fits (withMarks clean (numbered s registers)) known window (clean-sound (markable (s .window) (s .size)) 64)
+  flush-keeps true = fits (withMarks clean (numbered s registers)) known access window (clean-sound (markable (s .window) (s .size)) 64)
+  flush-keeps false = fits (withMarks clean (numbered s registers)) known access window (clean-sound (markable (s .window) (s .size)) 64)
 
   numbered-keeps : soundAt setup (length flash) (length memory) (numbered s registers) ≡ true
-  numbered-keeps = fits (numbered s registers) known window marks
+  numbered-keeps = fits (numbered s registers) known access window marks
 
   drop-keeps : soundAt setup (length flash) (length memory) (dropWindow (numbered s registers)) ≡ true
-  drop-keeps = fits (dropWindow (numbered s registers)) known refl (clean-sound 0 64)
+  drop-keeps = fits (dropWindow (numbered s registers)) known access refl (clean-sound 0 64)
 
   version-keeps : soundAt setup (length flash) (length memory) (withVersion (min (argument 0 registers) 2) (numbered s registers)) ≡ true
-  version-keeps = fits (withVersion (min (argument 0 registers) 2) (numbered s registers)) (omega arith) window marks
+  version-keeps = fits (withVersion (min (argument 0 registers) 2) (numbered s registers)) (omega arith) access window marks
 
   -- a command that no check refused, by its row
   abbrev Served : Command → Type 0
@@ -133,7 +137,7 @@ module _ (setup : Setup) (s : Session) (registers flash memory : List ℕ) (e : 
       (create-served (createWriteWindow .code) Write (λ o z. refl))
       (marked-served (from 1 (s .version)) dirty refl)
       (λ t a. flush-keeps (flushMarks (numbered s registers) registers))
-      (λ t a. fits (ackAnswer (numbered s registers) registers .session) known window marks)
+      (λ t a. fits (ackAnswer (numbered s registers) registers .session) known (acknowledged-access (s .suspended) (argument 0 registers) (s .events) access) window marks)
       (marked-served (from 2 (s .version)) erasedMark refl)
       (λ n t a. absurd (false≢true (passed t s registers false Access false a .knows)))
 
@@ -143,35 +147,20 @@ module _ (setup : Setup) (s : Session) (registers flash memory : List ℕ) (e : 
       each-command (λ (_ : ℕ) (c : Command). Keeps (c .whenBroken code registers (lent (numbered s registers) flash memory)))
       numbered-keeps numbered-keeps numbered-keeps drop-keeps numbered-keeps drop-keeps numbered-keeps numbered-keeps numbered-keeps numbered-keeps (λ _. numbered-keeps)
 
-  -- whatever the first check that refuses
-  answer-keeps : (r : Reason) → reasonIn setup registers (lent s flash memory) ≡ r → Keeps (answerTo r (commandIn registers) setup registers (lent s flash memory))
-  unfolding answerTo
-  answer-keeps Accepted a = served-keeps (commandOf registers) (soundIn setup (lent s flash memory)) a
-  answer-keeps System a = e
-  answer-keeps Repeated a = numbered-keeps
-  answer-keeps Unknown a = numbered-keeps
-  answer-keeps Suspended a = numbered-keeps
-  answer-keeps Windowless a = numbered-keeps
-  answer-keeps Argument a = broken-keeps 2 (commandOf registers)
-
 pub command-keeps : CommandKeeps
-unfolding mediate obeyed
-command-keeps setup registers m e = answer-keeps setup (m .session) registers (m .flash) (m .memory) e (reasonIn setup registers m) refl
-
--- yes, or no and the session as it was
-either : (setup : Setup) (flash memory : ℕ) (s : Session) → soundAt setup flash memory s ≡ true → (b : Bool) (t : Session) → soundAt setup flash memory t ≡ true
-    → soundAt setup flash memory (answer b s t .session) ≡ true
-either setup flash memory s e true t h = h
-either setup flash memory s e false t h = e
+command-keeps setup registers m e =
+    let same = numbered-keeps setup (m .session) registers (m .flash) (m .memory) e in
+    each-answer (Keeps setup (m .session) registers (m .flash) (m .memory) e) setup registers m
+    (served-keeps setup (m .session) registers (m .flash) (m .memory) e (commandOf registers) (soundIn setup m))
+    (λ code. broken-keeps setup (m .session) registers (m .flash) (m .memory) e code (commandOf registers)) (λ code. same) (λ code. e)
 
 pub access-keeps : AccessKeeps
-unfolding soundAt sound sessionSound
-access-keeps setup flash memory s e = (
-  either setup flash memory s e (not (s .suspended)) (withAccess true (setBits controlLost (s .events)) s) e,
-  either setup flash memory s e (s .suspended) (withAccess false (clearBits controlLost (s .events)) s) e,
-  either setup flash memory s e (s .suspended) (dropWindow (withAccess false (setBits windowReset (clearBits controlLost (s .events))) s))
-      (refitted-at setup flash memory s (dropWindow (withAccess false (setBits windowReset (clearBits controlLost (s .events))) s)) e (measured setup flash memory s e .fits .known) refl (clean-sound 0 64)),
-)
+access-keeps setup flash memory s e =
+    let sounds = measured setup flash memory s e .sound in (
+      sound-with setup flash memory s (suspended s .session) e (suspended-sound flash memory s sounds),
+      sound-with setup flash memory s (resumed s .session) e (resumed-sound flash memory s sounds),
+      sound-with setup flash memory s (resumedChanged s .session) e (changed-sound flash memory s sounds),
+    )
 
 pub fresh-sound : FreshSound
 unfolding soundAt sound sessionSound

@@ -3,3 +3,4 @@ mod CarriedOut
 pub mod Demand2
 pub mod Kept
 mod MarksKept
+pub mod Runs

@@ -12,12 +12,6 @@ use Rattle.units.proofs.Cases.{both}
 use Rattle.buffers.specs.Ranges.{replace}
 use Rattle.soundness.specs.Soundness.{marksSound}
 
--- no mark at all
-pub clean-sound : (n k : ℕ) → marksSound n (replicate k 0) ≡ true
-clean-sound n zero = refl
-clean-sound zero (suc k) = clean-sound zero k
-clean-sound (suc n) (suc k) = clean-sound n k
-
 module _ (mark : ℕ) (fine : leb mark 2 ≡ true) where
   alike : (n count : ℕ) → count ≤ n → marksSound n (replicate count mark ++ []) ≡ true
   alike n zero h = refl

@@ -1,5 +1,6 @@
 mod Creating
 pub mod Front
+pub mod Lengths
 mod Marking
 pub mod Mediating
 mod Refusing

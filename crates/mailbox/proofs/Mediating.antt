@@ -13,10 +13,10 @@ use Rattle.session.specs.Machine.{Setup, Machine}
 use Rattle.soundness.specs.Soundness.{sizeSound, soundIn}
 use Rattle.soundness.proofs.Facts.{sizes, part-within, measured}
 use Rattle.refusals.specs.declared.Reason.{Reason}
-use Rattle.refusals.specs.declared.Reason.the-variants.{Accepted}
+use Rattle.refusals.specs.declared.Reason.the-variants.{Accepted, System, Repeated, Unknown, Suspended, Windowless, Argument}
 use Rattle.registers.specs.Registers.{commandOf}
-use Rattle.refusals.specs.Refusals.{reasonFor}
-use Rattle.mailbox.specs.Commands.{numberedIn, refused}
+use Rattle.refusals.specs.Refusals.{reasonFor, codeFor}
+use Rattle.mailbox.specs.Commands.{Outcome, numberedIn, refused}
 use Rattle.mailbox.specs.Table.{Command, reset, getInfo, getFlashInfo, createReadWindow, closeWindow, createWriteWindow, markDirty, flush, ack, erase, unknown}
 use Rattle.mailbox.specs.Mediator.{commandAt, reasonOf, answerTo, obeyed, commandIn, reasonIn, mediate}
 
@@ -46,6 +46,27 @@ pub mediate-as : (setup : Setup) (registers : List ℕ) (m : Machine) (r : Reaso
     → mediate setup registers m ≡ answerTo r (commandIn registers) setup registers m
 unfolding mediate obeyed
 mediate-as setup registers m r e = ap (λ (q : Reason). answerTo q (commandIn registers) setup registers m) e
+
+-- what holds of a command that no check refused, of a refusal for its argument, and of every other one, holds of what a call leaves
+pub each-answer : (P : Outcome → Type 0) (setup : Setup) (registers : List ℕ) (m : Machine)
+    → (reasonIn setup registers m ≡ Accepted → P (commandIn registers .leaves setup registers (numberedIn registers m)))
+    → ((code : ℕ) → P (commandIn registers .whenBroken code registers (numberedIn registers m)))
+    → ((code : ℕ) → P (refused code registers (numberedIn registers m))) → ((code : ℕ) → P (refused code registers m))
+    → P (mediate setup registers m)
+unfolding mediate obeyed answerTo
+each-answer P setup registers m served broken late system = by (reasonIn setup registers m) refl
+  where
+    code : Reason → ℕ
+    code r = codeFor (m .session .version) r
+
+    by : (r : Reason) → reasonIn setup registers m ≡ r → P (answerTo r (commandIn registers) setup registers m)
+    by Accepted a = served a
+    by System a = system (code System)
+    by Repeated a = late (code Repeated)
+    by Unknown a = late (code Unknown)
+    by Suspended a = late (code Suspended)
+    by Windowless a = late (code Windowless)
+    by Argument a = broken (code Argument)
 
 -- where the sizes, B or the session are not sound
 pub unsound-as : (setup : Setup) (registers : List ℕ) (m : Machine) → soundIn setup m ≡ false → mediate setup registers m ≡ refused 4 registers m

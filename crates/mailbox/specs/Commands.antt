@@ -11,9 +11,10 @@ use Rattle.chip.specs.Actions.{erased}
 use Rattle.session.specs.declared.Session.{Session}
 use Rattle.session.specs.declared.Window.{Window}
 use Rattle.session.specs.declared.Previous.the-variants.{Number}
+use Rattle.session.specs.Events.{acknowledged}
 use Rattle.session.specs.Machine.{Setup, Machine, lent, holding}
 use Rattle.session.specs.Marks.{dirty, erasedMark}
-use Rattle.session.specs.Record.{clean, clearBits, withVersion, withPrevious, withEvents, withMarks, withWindow, dropWindow}
+use Rattle.session.specs.Record.{clean, withVersion, withPrevious, withEvents, withMarks, withWindow, dropWindow}
 use Rattle.flush.specs.Window.{flushWhole}
 use Rattle.mailbox.specs.declared.Answer.{Answer}
 use Rattle.registers.specs.Registers.{sequenceOf, argument, number, bytesOf, padded, reply}
@@ -146,9 +147,9 @@ flushing s registers = cond (flushMarks s registers) (marked dirty s registers) 
 abbrev pub flushed : List ℕ → Machine → Outcome
 flushed registers m = flushedAll registers (holding (flushing (m .session) registers) m)
 
--- ---- 9 ACK: "clears in the event byte every bit that argument 0 names"
+-- ---- 9 ACK: clears those of the event bits 0x01 and 0x02 "that argument 0 names" (02, Ticket 1)
 abbrev pub ackAnswer : Session → List ℕ → Answer
-ackAnswer s registers = answered (withEvents (clearBits (argument 0 registers) (s .events)) s) registers 1 [] 0
+ackAnswer s registers = answered (withEvents (acknowledged (argument 0 registers) (s .events)) s) registers 1 [] 0
 
 -- ---- 10 ERASE: "Those blocks are marked erased, and become FF in window memory at once."
 abbrev pub erasedOutcome : List ℕ → Machine → Outcome

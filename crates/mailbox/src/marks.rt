@@ -17,6 +17,7 @@ use session::CLEAN;
 use session::DIRTY;
 use session::ERASED;
 use session::Session;
+use session::acknowledge_events;
 use session::with_access;
 use session::with_marks;
 use units::Blocks;
@@ -82,7 +83,7 @@ pub(crate) fn flush(known: bool, call: Call, flash: &mut [u8], memory: &[u8]) ->
     flush_named(with_number(call), registers, flash, memory)
 }
 
-// ACK: clears the event bits that argument 0 names.
+// ACK: clears those of the events, and of no conditions, that argument 0 names.
 pub(crate) fn acknowledge(call: Call) -> Answer
     ensures { λ r. ⌜ ((flash memory : List ℕ) → outcome r flash memory ≡ obeyedBy ack call flash memory) ⌝ }
 {
@@ -93,7 +94,7 @@ pub(crate) fn acknowledge(call: Call) -> Answer
         return refuse(call, reason);
     };
     let next = with_number(call);
-    let events = next.events & (0xff - registers[2]);
+    let events = acknowledge_events(next.events, registers[2]);
     let cleared = with_access(next, next.suspended, events);
     answer(cleared, registers, 1, NO_ARGUMENTS, 0)
 }

@@ -1,3 +1,4 @@
+pub mod Events
 pub mod Machine
 pub mod Marks
 pub mod Record

@@ -1,22 +1,14 @@
 -- The session record: document 01, "Session". A new field of the session is named in `fresh`, in the setters below and in C's record (crate
 -- board).
-use Prim.Native.Nat.{ℕ, _-_}
+use Prim.Native.Nat.{ℕ}
 use mathlib.Core.Bool.{Bool, false}
 use mathlib.Core.List.{List}
-use lib.Bits.{bitAnd, bitOr}
 use lib.ListN.{replicate}
 use Rattle.session.specs.declared.Session.{Session}
 use Rattle.session.specs.declared.Window.{Window}
 use Rattle.session.specs.declared.Window.the-variants.{Closed}
 use Rattle.session.specs.declared.Previous.{Previous}
 use Rattle.session.specs.declared.Previous.the-variants.{Absent}
-
--- the event byte with the bits of a mask set, and with them cleared
-abbrev pub setBits : ℕ → ℕ → ℕ
-setBits mask events = bitOr events mask
-
-abbrev pub clearBits : ℕ → ℕ → ℕ
-clearBits mask events = bitAnd events (0xff - mask)
 
 -- "all marks 0": the 64 marks of a session with nothing marked
 abbrev pub clean : List ℕ

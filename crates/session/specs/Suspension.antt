@@ -1,16 +1,9 @@
 -- Suspend and resume: document 01, the last paragraph of "Commands".
-use Prim.Native.Nat.{ℕ}
 use mathlib.Core.Bool.{Bool, true, false, cond, not}
 use Rattle.session.specs.declared.Session.{Session}
 use Rattle.session.specs.declared.suspension.Suspension.{Suspension}
-use Rattle.session.specs.Record.{setBits, clearBits, withAccess, dropWindow}
-
--- "0x40 flash control lost", "0x02 window reset"
-abbrev pub controlLost : ℕ
-controlLost = 0x40
-
-abbrev pub windowReset : ℕ
-windowReset = 0x02
+use Rattle.session.specs.Events.{controlLost, windowReset, setBits, clearBits}
+use Rattle.session.specs.Record.{withAccess, dropWindow}
 
 -- a call that has nothing to do "changes nothing and answers no; otherwise they answer yes"
 abbrev pub answer : Bool → Session → Session → Suspension

@@ -1,11 +1,14 @@
-// The session record: what a fresh one holds, its setters and its marks, and suspend and resume.
+// The session record: what a fresh one holds, its setters, its marks and its event byte, and suspend and resume.
 //
 // Every record value can be made and gets an answer, also those that no command leaves. What the board sets up
 // stands here too, since it is looked at together with the session.
+mod events;
 mod marks;
 mod setters;
 mod suspension;
 
+pub use events::acknowledge_events;
+pub use events::is_control_lost;
 pub use marks::CLEAN;
 pub use marks::DIRTY;
 pub use marks::ERASED;

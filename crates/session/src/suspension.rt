@@ -1,5 +1,7 @@
 // Suspend and resume: on any session, sound or not.
 use crate::Session;
+use crate::events::CONTROL_LOST;
+use crate::events::WINDOW_RESET;
 use crate::setters::with_access;
 use crate::setters::without_window;
 ghost use mathlib.Core.Path.{_≡_};
@@ -23,7 +25,7 @@ pub fn suspend(session: Session) -> Suspension
     }
     Suspension {
         done: true,
-        session: with_access(session, true, session.events | 0x40),
+        session: with_access(session, true, session.events | CONTROL_LOST),
     }
 }
 
@@ -56,6 +58,6 @@ pub fn resume_changed(session: Session) -> Suspension
     let dropped = without_window(session);
     Suspension {
         done: true,
-        session: with_access(dropped, false, session.events & 0xbf | 0x02),
+        session: with_access(dropped, false, session.events & 0xbf | WINDOW_RESET),
     }
 }

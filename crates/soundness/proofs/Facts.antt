@@ -11,7 +11,7 @@ use Rattle.session.specs.declared.Session.{Session}
 use Rattle.session.specs.declared.Window.{Window}
 use Rattle.session.specs.declared.Window.the-variants.{Closed, Read, Write}
 use Rattle.session.specs.Machine.{Setup}
-use Rattle.soundness.specs.Soundness.{sizeSound, sizesSound, activeSound, windowSound, markable, marksSound, sessionSound, sound, soundAt}
+use Rattle.soundness.specs.Soundness.{sizeSound, sizesSound, accessSound, activeSound, windowSound, markable, marksSound, sessionSound, sound, soundAt}
 
 -- a buffer of whole blocks
 pub record Sized (most length : ℕ) : Type 0 where
@@ -57,6 +57,7 @@ window-within Write first size S C e = active-within first size S C e
 -- what a sound session tells, in blocks
 pub record Fitting (S C : ℕ) (s : Session) : Type 0 where
   pub known : s .version ≤ 2
+  pub access : accessSound (s .suspended) (s .events) ≡ true
   pub in-flash : s .first + s .size ≤ S
   pub in-memory : s .size ≤ C
   pub window : windowSound (s .window) (s .first) (s .size) S C ≡ true
@@ -66,25 +67,30 @@ pub fitting : (S C : ℕ) (s : Session) → sessionSound S C s ≡ true → Fitt
 unfolding sessionSound
 fitting S C s e =
     let p = both _ _ e in
-    let q = both _ _ (p .1) in
+    let a = both _ _ (p .1) in
+    let q = both _ _ (a .1) in
     let w = window-within (s .window) (s .first) (s .size) S C (q .0) in
-    record { known = leb-true _ _ (p .0); in-flash = w .0; in-memory = w .1; window = q .0; marks = q .1 }
+    record { known = leb-true _ _ (p .0); access = a .0; in-flash = w .0; in-memory = w .1; window = q .0; marks = q .1 }
 
 -- and the other way: a session that fits the sizes of a sound one is sound
 pub refitted : (flash memory : ℕ) (s t : Session) → sound flash memory s ≡ true → t .version ≤ 2
-    → windowSound (t .window) (t .first) (t .size) (roundUp flash) (roundUp memory) ≡ true → marksSound (markable (t .window) (t .size)) (t .marks) ≡ true
+    → accessSound (t .suspended) (t .events) ≡ true → windowSound (t .window) (t .first) (t .size) (roundUp flash) (roundUp memory) ≡ true → marksSound (markable (t .window) (t .size)) (t .marks) ≡ true
     → sound flash memory t ≡ true
 unfolding sound sessionSound
-refitted flash memory s t e v w m = rw (both (sizesSound flash memory) _ e .0, le-leb (t .version) 2 v, w, m)
+refitted flash memory s t e v a w m = rw (both (sizesSound flash memory) _ e .0, le-leb (t .version) 2 v, a, w, m)
 
--- and with B
-pub refitted-at : (setup : Setup) (flash memory : ℕ) (s t : Session) → soundAt setup flash memory s ≡ true → t .version ≤ 2
-    → windowSound (t .window) (t .first) (t .size) (roundUp flash) (roundUp memory) ≡ true → marksSound (markable (t .window) (t .size)) (t .marks) ≡ true
+-- and with B, which no session has a part in
+pub sound-with : (setup : Setup) (flash memory : ℕ) (s t : Session) → soundAt setup flash memory s ≡ true → sound flash memory t ≡ true
     → soundAt setup flash memory t ≡ true
 unfolding soundAt
-refitted-at setup flash memory s t e v w m =
-    let p = both (sound flash memory s) _ e in
-    rw (p .1, refitted flash memory s t (p .0) v w m)
+sound-with setup flash memory s t e h = rw (both (sound flash memory s) _ e .1, h)
+
+pub refitted-at : (setup : Setup) (flash memory : ℕ) (s t : Session) → soundAt setup flash memory s ≡ true → t .version ≤ 2
+    → accessSound (t .suspended) (t .events) ≡ true → windowSound (t .window) (t .first) (t .size) (roundUp flash) (roundUp memory) ≡ true → marksSound (markable (t .window) (t .size)) (t .marks) ≡ true
+    → soundAt setup flash memory t ≡ true
+unfolding soundAt
+refitted-at setup flash memory s t e v a w m =
+    sound-with setup flash memory s t e (refitted flash memory s t (both (sound flash memory s) _ e .0) v a w m)
 
 -- and in bytes: the window's part lies in the flash, and its blocks in the window memory
 pub part-within : (flash memory : ℕ) (s : Session) → sound flash memory s ≡ true

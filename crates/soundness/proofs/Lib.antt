@@ -1,2 +1,3 @@
+pub mod Access
 pub mod Facts
 pub mod SoundMarks

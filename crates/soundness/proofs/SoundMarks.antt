@@ -7,13 +7,19 @@ use Prim.Native.Nat.{ℕ, zero, suc, _+_, _-_, _≤_, _<_}
 use native.Mathlib.Numerals.{add-one}
 use native.Mathlib.Omega.{arith}
 use lib.Dec.{leb}
-use lib.ListN.{length, getD, drop, drop-of-length-le}
+use lib.ListN.{length, getD, drop, replicate, drop-of-length-le}
 use lib.Seq.{drop-cons}
 use borrow.Author.Tests.{le-leb, lt-leb, leb-true}
 use Rattle.units.proofs.Cases.{below-or, both}
 use Rattle.session.specs.declared.Window.{Window}
 use Rattle.session.specs.declared.Window.the-variants.{Closed, Read, Write}
 use Rattle.soundness.specs.Soundness.{markable, marksSound}
+
+-- no mark at all
+pub clean-sound : (n k : ℕ) → marksSound n (replicate k 0) ≡ true
+clean-sound n zero = refl
+clean-sound zero (suc k) = clean-sound zero k
+clean-sound (suc n) (suc k) = clean-sound n k
 
 module _ (n i : ℕ) (ms : List ℕ) (h : i < length ms) where
   marks-in : i < n → marksSound (n - i) (drop i ms) ≡ (leb (getD ms i 0) 2 && marksSound (n - (i + 1)) (drop (i + 1) ms))

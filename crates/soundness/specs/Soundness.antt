@@ -1,11 +1,12 @@
--- Soundness: document 01, "Numbers" and the second paragraph of "Session".
+-- Soundness: document 01, "Numbers" and the second paragraph of "Session", and 02, Ticket 1.
 use Prim.Native.Nat.{ℕ, zero, suc, _+_}
-use mathlib.Core.Bool.{Bool, true, _&&_}
+use mathlib.Core.Bool.{Bool, true, false, not, _&&_}
 use mathlib.Core.List.{List, [], _∷_}
 use lib.Dec.{leb, eqb}
 use lib.ListN.{length}
 use Rattle.units.specs.Units.{toBytes, roundUp}
 use Rattle.session.specs.declared.Session.{Session}
+use Rattle.session.specs.Events.{controlLost, isSet}
 use Rattle.session.specs.Machine.{Setup, Machine}
 use Rattle.session.specs.declared.Window.{Window}
 use Rattle.session.specs.declared.Window.the-variants.{Closed, Read, Write}
@@ -17,6 +18,11 @@ sizeSound most length = leb 1 (roundUp length) && (leb (roundUp length) most && 
 -- "S, the flash size, is 1 to 65,535 blocks. C, the window memory, is 1 to 64 blocks"; both lengths in bytes
 unfoldable pub sizesSound : ℕ → ℕ → Bool
 sizesSound flash memory = sizeSound 65535 flash && sizeSound 64 memory
+
+-- "in a sound session, 0x40 is set exactly while access is suspended"
+abbrev pub accessSound : Bool → ℕ → Bool
+accessSound true events = isSet controlLost events
+accessSound false events = not (isSet controlLost events)
 
 -- "an active window has size 1 to C and ends at or before S"
 abbrev pub activeSound : ℕ → ℕ → ℕ → ℕ → Bool
@@ -44,7 +50,8 @@ marksSound (suc n) (m ∷ ms) = leb m 2 && marksSound n ms
 unfoldable pub sessionSound : ℕ → ℕ → Session → Bool
 sessionSound S C s =
     leb (s .version) 2
-    && (windowSound (s .window) (s .first) (s .size) S C && marksSound (markable (s .window) (s .size)) (s .marks))
+    && (accessSound (s .suspended) (s .events)
+    && (windowSound (s .window) (s .first) (s .size) S C && marksSound (markable (s .window) (s .size)) (s .marks)))
 
 -- the lent sizes, in bytes, and the session keep the numbers
 unfoldable pub sound : ℕ → ℕ → Session → Bool

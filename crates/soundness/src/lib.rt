@@ -4,13 +4,14 @@
 use session::Board;
 use session::Session;
 use session::Window;
+use session::is_control_lost;
 use units::Bytes;
 ghost use mathlib.Core.Path.{_≡_};
 ghost use Prim.Native.Nat.{_<_};
 ghost use mathlib.Core.Bool.{cond};
 ghost use lib.Dec.{leb};
 ghost use Rattle.session.specs.Machine.{setUp};
-ghost use Rattle.soundness.specs.Soundness.{sound, soundAt, sizeSound, activeSound, windowSound, markable, marksSound, sessionSound};
+ghost use Rattle.soundness.specs.Soundness.{sound, soundAt, sizeSound, accessSound, activeSound, windowSound, markable, marksSound, sessionSound};
 
 // The most blocks of a flash and of a window memory, and how far the LPC blocks go.
 const MOST_FLASH: u32 = 65535;
@@ -66,12 +67,26 @@ fn session_is_sound(session: Session, flash: u32, memory: u32) -> bool
     if 2 < session.version {
         return false;
     }
+    if !access_is_sound(session.suspended, session.events) {
+        return false;
+    }
     let window = session.window;
     if !window_is_sound(window, session.first, session.size, flash, memory) {
         return false;
     }
     let marks = session.marks;
     marks_are_sound(marks, markable_blocks(window, session.size))
+}
+
+// The event byte tells a suspension exactly while there is one.
+fn access_is_sound(suspended: bool, events: u8) -> bool
+    ensures { λ r. ⌜ r ≡ accessSound suspended events ⌝ }
+{
+    if suspended {
+        is_control_lost(events)
+    } else {
+        !is_control_lost(events)
+    }
 }
 
 fn window_is_sound(window: Window, first: u16, size: u16, flash: u32, memory: u32) -> bool

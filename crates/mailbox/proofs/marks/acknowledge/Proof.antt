@@ -1,14 +1,12 @@
 -- `mailbox::marks::acknowledge` meets its contract.
 use mathlib.Core.Path.{refl, ap, _∙_}
 use mathlib.Core.List.{[]}
-use native.Mathlib.Omega.{arith}
 use borrow.Author.Needs.{needs}
-use lib.ListN.{getD}
-use mir.Syntax.{w8}
-use mir.Val.{Fits}
+use Prim.Native.Nat.{ℕ}
 use Rattle.session.specs.declared.Session.{Session}
 use Rattle.registers.specs.Registers.{argument}
-use Rattle.session.specs.Record.{clearBits, withEvents}
+use Rattle.session.specs.Events.{acknowledged}
+use Rattle.session.specs.Record.{withEvents}
 use Rattle.mailbox.specs.declared.Answer.{Answer}
 use Rattle.mailbox.specs.Commands.{outcome, answered}
 use Rattle.mailbox.specs.Table.{ack}
@@ -37,11 +35,11 @@ returns c = λ flash memory.
 with-number-requires : tie.Need-with-number-requires
 with-number-requires c κs = search needs
 
-array-read-events : tie.Need-array-read-events
-array-read-events c = search needs
+array-read-acknowledge-events : tie.Need-array-read-acknowledge-events
+array-read-acknowledge-events c = search needs
 
-sub-events : tie.Need-sub-events
-sub-events c = let h : Fits w8 (getD (c .before .before .before .before .before .before .args .call .registers) 2 0) = search needs in omega arith
+acknowledge-events-requires : tie.Need-acknowledge-events-requires
+acknowledge-events-requires c κs = search needs
 
 with-access-requires : tie.Need-with-access-requires
 with-access-requires c κs = search needs
@@ -51,7 +49,8 @@ answer-requires c κs = search needs
 
 returns-2 : tie.Need-returns-2
 returns-2 c = λ flash memory.
-    let next = c .before .before .before in
+    let acknowledged-to = c .before .before in
+    let next = acknowledged-to .before in
     let told = next .before in
     let asked = told .before .before in
     let entered = asked .before .before .before in
@@ -59,7 +58,9 @@ returns-2 c = λ flash memory.
     ap (λ (r : Answer). outcome r flash memory)
     (c .answer .ensures
     ∙ ap (λ (s : Session). answered s (call .registers) 1 [] 0)
-    (c .before .with-access .ensures ∙ ap (λ (s : Session). withEvents (clearBits (argument 0 (call .registers)) (s .events)) s) (next .with-number .ensures)))
+    (c .before .with-access .ensures
+    ∙ ap (λ (events : ℕ). withEvents events (next .with-number .result)) (acknowledged-to .acknowledge-events .ensures)
+    ∙ ap (λ (s : Session). withEvents (acknowledged (argument 0 (call .registers)) (s .events)) s) (next .with-number .ensures)))
     ∙ accepted-by ack (setUp (call .board)) (call .registers) (lent (call .session) flash memory) (asked .reason-for .result) (asked .reason-for .ensures) (told .enum-told .given .1)
 
 pub acknowledge-spec : {M : Type 1} → statement M
@@ -71,8 +72,8 @@ acknowledge-spec =
     refuse-requires
     returns
     with-number-requires
-    array-read-events
-    sub-events
+    array-read-acknowledge-events
+    acknowledge-events-requires
     with-access-requires
     answer-requires
     returns-2)

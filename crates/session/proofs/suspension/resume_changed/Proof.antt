@@ -2,8 +2,9 @@
 use mathlib.Core.Path.{ap, _∙_}
 use mathlib.Core.Bool.{true, false}
 use Rattle.session.specs.declared.Session.{Session}
-use Rattle.session.specs.Record.{setBits, clearBits, withAccess}
-use Rattle.session.specs.Suspension.{controlLost, windowReset, answer}
+use Rattle.session.specs.Events.{controlLost, windowReset, setBits, clearBits}
+use Rattle.session.specs.Record.{withAccess}
+use Rattle.session.specs.Suspension.{answer}
 use borrow.Author.Tests.{not-true, not-false}
 use borrow.Author.Needs.{needs}
 use Rattle.session.proofs.suspension.resume_changed.Statement.{statement}

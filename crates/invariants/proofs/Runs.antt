@@ -1,0 +1,177 @@
+-- What a run of any calls keeps: the claims stand in specs/Runs.antt.
+use mathlib.Core.Path.{_≡_, refl, ap, _∙_}
+use mathlib.Core.Bool.{Bool, true, false, not}
+use mathlib.Core.List.{List, [], _∷_}
+use mathlib.Core.Logic.{⊎-elim}
+use mathlib.Core.Option.{Option, none, some}
+use Prim.Native.Nat.{ℕ, _≤_, min}
+use native.Mathlib.Omega.{arith}
+use lib.ListN.{length, take, drop, length-append, length-take, length-drop}
+use Rattle.units.proofs.Cases.{decided, chosen}
+use Rattle.units.specs.Units.{toBytes, roundUp}
+use Rattle.buffers.specs.Ranges.{replace}
+use Rattle.session.specs.declared.Session.{Session}
+use Rattle.session.specs.Events.{controlLost, windowReset, daemonReady, setBits, clearBits, acknowledgeable}
+use Rattle.session.specs.Machine.{Setup, Machine, lent}
+use Rattle.session.specs.Marks.{dirty}
+use Rattle.session.specs.Record.{withAccess, dropWindow, fresh}
+use Rattle.session.specs.Suspension.{answer}
+use Rattle.session.proofs.Bits.{same-part, same-bit, clear-within, set-within, acknowledged-others}
+use Rattle.soundness.specs.Soundness.{sound, soundAt, soundIn}
+use Rattle.soundness.proofs.Access.{told}
+use Rattle.soundness.proofs.Facts.{sizes, fitting, part-within, measured}
+use Rattle.soundness.proofs.SoundMarks.{marks-within}
+use Rattle.flush.specs.Actions.{Action}
+use Rattle.flush.specs.Window.{windowActions, performIn, performNext, advanced}
+use Rattle.flush.proofs.Bytes.{AllIn}
+use Rattle.flush.proofs.Cuts.{all-flush, all-take, all-drop}
+use Rattle.flush.proofs.Whole.{in-length}
+use Rattle.registers.specs.Registers.{commandOf, argument}
+use Rattle.refusals.specs.Refusals.{flushMarks}
+use Rattle.mailbox.specs.Commands.{Outcome, numbered, numberedIn, marked}
+use Rattle.mailbox.specs.Table.{Command}
+use Rattle.mailbox.specs.Mediator.{commandAt, reasonIn, mediate}
+use Rattle.mailbox.specs.Runs.{Call, send, suspend, resume, resumeChanged, step, write, written, called, calledAll}
+use Rattle.mailbox.proofs.Lengths.{memory-long}
+use Rattle.mailbox.proofs.Mediating.{each-command, each-answer}
+use Rattle.invariants.specs.Demand2.{flushedFor, Leaves}
+use Rattle.invariants.specs.Runs.{RunLengths, CommandEvents, changeable, RunEvents, RunKeeps, RunFromFresh}
+use Rattle.invariants.proofs.Demand2.{demand-2}
+use Rattle.invariants.proofs.Kept.{command-keeps, access-keeps, fresh-sound}
+
+-- ---- lengths
+
+-- a command, whether it carries out marks or not
+leaves-long : (t : Option Session) (flash memory after : List ℕ) (actions : ℕ) → Leaves t flash memory after actions → length after ≡ length flash
+leaves-long none flash memory after actions l = ap length (l .0)
+leaves-long (some s) flash memory after actions l = l .long
+
+-- a step
+step-long : (m : Machine) (done : ℕ) → length (advanced m done .flash) ≡ length (m .flash)
+unfolding advanced performIn
+step-long m done =
+    ⊎-elim
+    (λ (e : sound (length (m .flash)) (length (m .memory)) (m .session) ≡ true).
+    rw e (⊎-elim (λ (a : m .session .suspended ≡ true). rw a) (λ (a : m .session .suspended ≡ false). rw a (acted e)) (decided (m .session .suspended))))
+    (λ (e : sound (length (m .flash)) (length (m .memory)) (m .session) ≡ false). rw e)
+    (decided (sound (length (m .flash)) (length (m .memory)) (m .session)))
+  where
+    acted : sound (length (m .flash)) (length (m .memory)) (m .session) ≡ true → length (performNext m done) ≡ length (m .flash)
+    acted e =
+        let s = m .session in
+        let p = part-within (length (m .flash)) (length (m .memory)) s e in
+        let f = fitting _ _ s (sizes (length (m .flash)) (length (m .memory)) s e .2) in
+        let all = all-flush (s .size) (s .marks) (marks-within (s .window) (s .size) (s .marks) (f .marks)) in
+        in-length s (m .flash) (p .0) (m .memory) (p .1) (take 1 (drop done (windowActions s)))
+        (all-take (s .size) 1 (drop done (windowActions s)) (all-drop (s .size) done (windowActions s) all))
+
+-- a host write
+write-long : (at : ℕ) (bytes memory : List ℕ) → length (written at bytes memory) ≡ length memory
+write-long at bytes memory =
+    length-take (length memory) (replace at bytes memory) ∙ least
+  where
+    longer : length memory ≤ length (replace at bytes memory)
+    longer = simp (length-append, length-take, length-drop) (omega arith)
+
+    least : min (length memory) (length (replace at bytes memory)) ≡ length memory
+    least = omega (arith, longer)
+
+call-long : (setup : Setup) (call : Call) (m : Machine)
+    → (length (called setup call m .flash) ≡ length (m .flash)) × (length (called setup call m .memory) ≡ length (m .memory))
+call-long setup (send registers) m = (
+  leaves-long (flushedFor (reasonIn setup registers m) (m .session) registers) (m .flash) (m .memory) (mediate setup registers m .machine .flash) (mediate setup registers m .actions) (demand-2 setup registers m),
+  memory-long setup registers m,
+)
+call-long setup suspend m = (refl, refl)
+call-long setup resume m = (refl, refl)
+call-long setup resumeChanged m = (refl, refl)
+call-long setup (step done) m = (step-long m done, refl)
+call-long setup (write at bytes) m = (refl, write-long at bytes (m .memory))
+
+pub run-lengths : RunLengths
+run-lengths setup [] m = (refl, refl)
+run-lengths setup (call ∷ calls) m =
+    let p = run-lengths setup calls (called setup call m) in
+    let q = call-long setup call m in
+    (p .0 ∙ q .0, p .1 ∙ q .1)
+
+-- ---- event bits
+
+-- what is to be shown of an outcome
+abbrev Same : ℕ → Outcome → Type 0
+Same events o = clearBits acknowledgeable (o .machine .session .events) ≡ clearBits acknowledgeable events
+
+module _ (setup : Setup) (registers : List ℕ) (m : Machine) where
+  served-same : (n : ℕ) → Same (m .session .events) (commandAt n .leaves setup registers (numberedIn registers m))
+  served-same =
+      each-command (λ (_ : ℕ) (c : Command). Same (m .session .events) (c .leaves setup registers (numberedIn registers m)))
+      refl refl refl refl refl refl refl
+      (chosen (λ (t : Session). clearBits acknowledgeable (t .events) ≡ clearBits acknowledgeable (m .session .events)) (flushMarks (numbered (m .session) registers) registers) (marked dirty (numbered (m .session) registers) registers) (numbered (m .session) registers) (λ _. refl) (λ _. refl))
+      (acknowledged-others (argument 0 registers) (m .session .events)) refl (λ _. refl)
+
+  broken-same : (code n : ℕ) → Same (m .session .events) (commandAt n .whenBroken code registers (numberedIn registers m))
+  broken-same code =
+      each-command (λ (_ : ℕ) (c : Command). Same (m .session .events) (c .whenBroken code registers (numberedIn registers m)))
+      refl refl refl refl refl refl refl refl refl refl (λ _. refl)
+
+pub command-events : CommandEvents
+command-events setup registers m =
+    each-answer (Same (m .session .events)) setup registers m (λ _. served-same setup registers m (commandOf registers))
+    (λ code. broken-same setup registers m code (commandOf registers)) (λ code. refl) (λ code. refl)
+
+-- yes, or no and the session as it was
+access-same : (acts : Bool) (s t : Session) → clearBits changeable (t .events) ≡ clearBits changeable (s .events)
+    → clearBits changeable (answer acts s t .session .events) ≡ clearBits changeable (s .events)
+access-same true s t e = e
+access-same false s t e = refl
+
+call-events : (setup : Setup) (call : Call) (m : Machine)
+    → clearBits changeable (called setup call m .session .events) ≡ clearBits changeable (m .session .events)
+call-events setup (send registers) m =
+    same-part acknowledgeable 0xbc (mediate setup registers m .machine .session .events) (m .session .events) refl (command-events setup registers m)
+call-events setup suspend m =
+    let s = m .session in
+    access-same (not (s .suspended)) s (withAccess true (setBits controlLost (s .events)) s) (set-within changeable controlLost (s .events) refl)
+call-events setup resume m =
+    let s = m .session in
+    access-same (s .suspended) s (withAccess false (clearBits controlLost (s .events)) s) (clear-within changeable controlLost (s .events) refl)
+call-events setup resumeChanged m =
+    let s = m .session in
+    access-same (s .suspended) s (dropWindow (withAccess false (setBits windowReset (clearBits controlLost (s .events))) s))
+    (set-within changeable windowReset (clearBits controlLost (s .events)) refl ∙ clear-within changeable controlLost (s .events) refl)
+call-events setup (step done) m = refl
+call-events setup (write at bytes) m = refl
+
+pub run-events : RunEvents
+run-events setup [] m = refl
+run-events setup (call ∷ calls) m = run-events setup calls (called setup call m) ∙ call-events setup call m
+
+-- ---- soundness
+
+-- the session afterwards is sound in the lengths from before
+call-sound : (setup : Setup) (call : Call) (m : Machine) → soundIn setup m ≡ true
+    → soundAt setup (length (m .flash)) (length (m .memory)) (called setup call m .session) ≡ true
+call-sound setup (send registers) m e = command-keeps setup registers m e
+call-sound setup suspend m e = access-keeps setup (length (m .flash)) (length (m .memory)) (m .session) e .0
+call-sound setup resume m e = access-keeps setup (length (m .flash)) (length (m .memory)) (m .session) e .1
+call-sound setup resumeChanged m e = access-keeps setup (length (m .flash)) (length (m .memory)) (m .session) e .2
+call-sound setup (step done) m e = e
+call-sound setup (write at bytes) m e = e
+
+pub run-keeps : RunKeeps
+run-keeps setup [] m e = e
+run-keeps setup (call ∷ calls) m e =
+    let long = call-long setup call m in
+    run-keeps setup calls (called setup call m) (rw (long .0, long .1) (call-sound setup call m e))
+
+pub run-from-fresh : RunFromFresh
+run-from-fresh setup flash memory sizes most calls =
+    let start = lent fresh flash memory in
+    let m = calledAll setup calls start in
+    let e = run-keeps setup calls start (fresh-sound setup (length flash) (length memory) sizes most) in (
+      e,
+      record {
+        lost = told (m .session .suspended) (m .session .events) (measured setup (length (m .flash)) (length (m .memory)) (m .session) e .fits .access);
+        ready = same-bit changeable daemonReady (m .session .events) 0x81 refl (run-events setup calls start);
+      },
+    )

@@ -1,0 +1,37 @@
+-- A run of calls: "every call gets what the one before left" (document 00, demand 3). A call more of the controller's side is a case more here.
+use Prim.Native.Nat.{ℕ}
+use mathlib.Core.List.{List, [], _∷_}
+use lib.ListN.{length, take}
+use Rattle.buffers.specs.Ranges.{replace}
+use Rattle.session.specs.Machine.{Setup, Machine, lent, holding}
+use Rattle.session.specs.Suspension.{suspended, resumed, resumedChanged}
+use Rattle.flush.specs.Window.{advanced}
+use Rattle.mailbox.specs.Mediator.{mediate}
+
+pub data Call : Type 0 where
+  -- a mailbox command, with any content of the registers
+  send : List ℕ → Call
+  -- suspend, resume, and "Resume 'with changed flash'"
+  suspend resume resumeChanged : Call
+  -- the flush advanced by one action, told any "number of actions already done"
+  step : ℕ → Call
+  -- bytes that the host writes at an offset of window memory
+  write : ℕ → List ℕ → Call
+
+-- the host's bytes; those past the end of window memory are not its own, and fall away
+abbrev pub written : ℕ → List ℕ → List ℕ → List ℕ
+written at bytes memory = take (length memory) (replace at bytes memory)
+
+-- what a call leaves
+abbrev pub called : Setup → Call → Machine → Machine
+called setup (send registers) m = mediate setup registers m .machine
+called setup suspend m = holding (suspended (m .session) .session) m
+called setup resume m = holding (resumed (m .session) .session) m
+called setup resumeChanged m = holding (resumedChanged (m .session) .session) m
+called setup (step done) m = lent (m .session) (advanced m done .flash) (m .memory)
+called setup (write at bytes) m = lent (m .session) (m .flash) (written at bytes (m .memory))
+
+-- and a list of them
+abbrev pub calledAll : Setup → List Call → Machine → Machine
+calledAll setup [] m = m
+calledAll setup (call ∷ calls) m = calledAll setup calls (called setup call m)

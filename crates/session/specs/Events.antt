@@ -1,0 +1,37 @@
+-- The event byte: document 01, "Session", and 02, Ticket 1.
+use Prim.Native.Nat.{ℕ, _-_}
+use mathlib.Core.Bool.{Bool}
+use lib.Bits.{bitAnd, bitOr}
+use lib.Dec.{eqb}
+
+-- "0x01 protocol reset, 0x02 window reset, 0x40 flash control lost, 0x80 daemon ready"
+abbrev pub protocolReset : ℕ
+protocolReset = 0x01
+
+abbrev pub windowReset : ℕ
+windowReset = 0x02
+
+abbrev pub controlLost : ℕ
+controlLost = 0x40
+
+abbrev pub daemonReady : ℕ
+daemonReady = 0x80
+
+-- the event byte with the bits of a mask set, and with them cleared
+abbrev pub setBits : ℕ → ℕ → ℕ
+setBits mask events = bitOr events mask
+
+abbrev pub clearBits : ℕ → ℕ → ℕ
+clearBits mask events = bitAnd events (0xff - mask)
+
+-- whether a bit is set
+abbrev pub isSet : ℕ → ℕ → Bool
+isSet bit events = eqb (bitAnd events bit) bit
+
+-- "0x40 and 0x80 are conditions and not events: ACK clears only 0x01 and 0x02"
+abbrev pub acknowledgeable : ℕ
+acknowledgeable = setBits windowReset protocolReset
+
+-- of these, those that are named
+abbrev pub acknowledged : ℕ → ℕ → ℕ
+acknowledged named events = clearBits (bitAnd named acknowledgeable) events
