@@ -1,4 +1,4 @@
--- The twelve examples of document 01 as data, then one for a ticket of document 02, and what it is for one to hold: its calls are made on the
+-- The twelve examples of document 01 as data, then those of tickets of document 02, and what it is for one to hold: its calls are made on the
 -- definitions, each on what the one before left, and what each leaves passes the checks that the papers' words ask for.
 use Prim.Native.Nat.{ℕ, zero, suc, _-_}
 use mathlib.Core.Path.{_≡_}
@@ -12,8 +12,8 @@ use Rattle.chip.specs.Actions.{pageBytes}
 use Rattle.session.specs.declared.Window.{Window}
 use Rattle.session.specs.declared.Window.the-variants.{Closed, Read, Write}
 use Rattle.session.specs.Machine.{Setup, setUp, Machine, lent, holding}
-use Rattle.session.specs.Record.{fresh}
-use Rattle.session.specs.Suspension.{suspended}
+use Rattle.session.specs.Record.{fresh, withAccess}
+use Rattle.session.specs.Suspension.{suspended, resumedChanged}
 use Rattle.flush.specs.Actions.{Action, program, perform}
 use Rattle.flush.specs.Window.{Advanced, advanced}
 use Rattle.mailbox.specs.Commands.{Outcome}
@@ -118,6 +118,14 @@ changed m s = record { machine = m; code = s .code; arguments = s .arguments; ac
 -- flash access is suspended
 abbrev pub suspend : Call
 suspend s = changed (holding (suspended (s .machine .session) .session) (s .machine)) s
+
+-- it is resumed, "with changed flash"
+abbrev pub resumeChanged : Call
+resumeChanged s = changed (holding (resumedChanged (s .machine .session) .session) (s .machine)) s
+
+-- another suspension and event byte are found in the record
+abbrev pub access : Bool → ℕ → Call
+access isSuspended byte s = changed (holding (withAccess isSuspended byte (s .machine .session)) (s .machine)) s
 
 -- another flash and window memory are lent
 abbrev pub lend : List ℕ → List ℕ → Call
@@ -371,11 +379,40 @@ example13 =
     ∷ command (9 ∷ 20 ∷ 0x00 ∷ []) shows (refused 8 ∷ [])
     ∷ []
 
+-- Ticket 1, "event byte 83, ACK FF, leaves 80": of the two events those that are named, at every version; of all other bits none, 0x40 while
+-- suspended among them. "Bit 0x40 disagreeing with the suspension is SYSTEM_ERROR, first as before", also where the number repeats, for GET_INFO
+-- and for a step; the record stays as it is
+abbrev pub example14 : Example
+example14 =
+    suspend shows (events 0xc1 ∷ [])
+    ∷ resumeChanged shows (events 0x83 ∷ [])
+    ∷ command (9 ∷ 1 ∷ 0xff ∷ []) shows (code 1 ∷ arguments [] ∷ events 0x80 ∷ [])
+    ∷ access false 0xbf shows []
+    ∷ command (9 ∷ 2 ∷ 0xfd ∷ []) shows (code 1 ∷ events 0xbe ∷ [])
+    ∷ command (2 ∷ 3 ∷ 1 ∷ []) shows (version 1 ∷ [])
+    ∷ command (9 ∷ 4 ∷ 0xfe ∷ []) shows (code 1 ∷ events 0xbc ∷ [])
+    ∷ command (2 ∷ 5 ∷ 2 ∷ []) shows (version 2 ∷ [])
+    ∷ suspend shows (events 0xfc ∷ [])
+    ∷ command (9 ∷ 6 ∷ 0xff ∷ []) shows (code 1 ∷ events 0xfc ∷ [])
+    ∷ step 0 shows (code 6 ∷ actions 0 ∷ [])
+    ∷ access true 0xbf shows []
+    ∷ command (9 ∷ 6 ∷ 0xff ∷ []) shows (refused 4 ∷ events 0xbf ∷ [])
+    ∷ command (2 ∷ 7 ∷ 1 ∷ []) shows (refused 4 ∷ events 0xbf ∷ version 2 ∷ [])
+    ∷ step 0 shows (code 4 ∷ actions 0 ∷ [])
+    ∷ access false 0x40 shows []
+    ∷ command (9 ∷ 6 ∷ 0xff ∷ []) shows (refused 4 ∷ events 0x40 ∷ [])
+    ∷ command (2 ∷ 7 ∷ 1 ∷ []) shows (refused 4 ∷ events 0x40 ∷ version 2 ∷ [])
+    ∷ step 0 shows (code 4 ∷ actions 0 ∷ [])
+    ∷ access false 0x00 shows []
+    ∷ command (9 ∷ 6 ∷ 0xff ∷ []) shows (refused 8 ∷ events 0x00 ∷ [])
+    ∷ step 0 shows (code 1 ∷ actions 0 ∷ [])
+    ∷ []
+
 -- the twelve, and those
 unfoldable pub examples : List Example
 examples =
     example1 ∷ example2 ∷ example3 ∷ example4 ∷ example5 ∷ example6 ∷ example7 ∷ example8 ∷ example9 ∷ example10 ∷ example11 ∷ example12
-    ∷ example13
+    ∷ example13 ∷ example14
     ∷ []
 
 -- "The twelve examples are proved from the definitions by a single statement over a single list": its proof is `all-hold`, in proofs/AllHold.antt

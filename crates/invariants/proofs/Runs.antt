@@ -4,12 +4,14 @@ use mathlib.Core.Bool.{Bool, true, false, not}
 use mathlib.Core.List.{List, [], _∷_}
 use mathlib.Core.Logic.{⊎-elim}
 use mathlib.Core.Option.{Option, none, some}
-use Prim.Native.Nat.{ℕ, _≤_, min}
+use Prim.Native.Nat.{ℕ, _+_, _≤_, min}
 use native.Mathlib.Omega.{arith}
 use lib.ListN.{length, take, drop, length-append, length-take, length-drop}
+use lib.Seq.{take-all}
 use Rattle.units.proofs.Cases.{decided, chosen}
 use Rattle.units.specs.Units.{toBytes, roundUp}
 use Rattle.buffers.specs.Ranges.{replace}
+use Rattle.buffers.proofs.Replace.{replace-length}
 use Rattle.session.specs.declared.Session.{Session}
 use Rattle.session.specs.Events.{controlLost, windowReset, daemonReady, setBits, clearBits, acknowledgeable}
 use Rattle.session.specs.Machine.{Setup, Machine, lent}
@@ -31,7 +33,7 @@ use Rattle.refusals.specs.Refusals.{flushMarks}
 use Rattle.mailbox.specs.Commands.{Outcome, numbered, numberedIn, marked}
 use Rattle.mailbox.specs.Table.{Command}
 use Rattle.mailbox.specs.Mediator.{commandAt, reasonIn, mediate}
-use Rattle.mailbox.specs.Runs.{Call, send, suspend, resume, resumeChanged, step, write, written, called, calledAll}
+use Rattle.mailbox.specs.Runs.{Call, send, suspend, resume, resumeChanged, advance, write, written, called, calledAll}
 use Rattle.mailbox.proofs.Lengths.{memory-long}
 use Rattle.mailbox.proofs.Mediating.{each-command, each-answer}
 use Rattle.invariants.specs.Demand2.{flushedFor, Leaves}
@@ -66,7 +68,7 @@ step-long m done =
         (all-take (s .size) 1 (drop done (windowActions s)) (all-drop (s .size) done (windowActions s) all))
 
 -- a host write
-write-long : (at : ℕ) (bytes memory : List ℕ) → length (written at bytes memory) ≡ length memory
+pub write-long : (at : ℕ) (bytes memory : List ℕ) → length (written at bytes memory) ≡ length memory
 write-long at bytes memory =
     length-take (length memory) (replace at bytes memory) ∙ least
   where
@@ -75,6 +77,12 @@ write-long at bytes memory =
 
     least : min (length memory) (length (replace at bytes memory)) ≡ length memory
     least = omega (arith, longer)
+
+-- one that fits replaces a range
+pub write-within : (at : ℕ) (bytes memory : List ℕ) → at + length bytes ≤ length memory → written at bytes memory ≡ replace at bytes memory
+write-within at bytes memory fits =
+    let same = replace-length at bytes memory fits in
+    take-all (length memory) (replace at bytes memory) (omega arith)
 
 call-long : (setup : Setup) (call : Call) (m : Machine)
     → (length (called setup call m .flash) ≡ length (m .flash)) × (length (called setup call m .memory) ≡ length (m .memory))
@@ -85,7 +93,7 @@ call-long setup (send registers) m = (
 call-long setup suspend m = (refl, refl)
 call-long setup resume m = (refl, refl)
 call-long setup resumeChanged m = (refl, refl)
-call-long setup (step done) m = (step-long m done, refl)
+call-long setup (advance done) m = (step-long m done, refl)
 call-long setup (write at bytes) m = (refl, write-long at bytes (m .memory))
 
 pub run-lengths : RunLengths
@@ -139,7 +147,7 @@ call-events setup resumeChanged m =
     let s = m .session in
     access-same (s .suspended) s (dropWindow (withAccess false (setBits windowReset (clearBits controlLost (s .events))) s))
     (set-within changeable windowReset (clearBits controlLost (s .events)) refl ∙ clear-within changeable controlLost (s .events) refl)
-call-events setup (step done) m = refl
+call-events setup (advance done) m = refl
 call-events setup (write at bytes) m = refl
 
 pub run-events : RunEvents
@@ -155,7 +163,7 @@ call-sound setup (send registers) m e = command-keeps setup registers m e
 call-sound setup suspend m e = access-keeps setup (length (m .flash)) (length (m .memory)) (m .session) e .0
 call-sound setup resume m e = access-keeps setup (length (m .flash)) (length (m .memory)) (m .session) e .1
 call-sound setup resumeChanged m e = access-keeps setup (length (m .flash)) (length (m .memory)) (m .session) e .2
-call-sound setup (step done) m e = e
+call-sound setup (advance done) m e = e
 call-sound setup (write at bytes) m e = e
 
 pub run-keeps : RunKeeps

@@ -14,7 +14,7 @@ pub data Call : Type 0 where
   -- suspend, resume, and "Resume 'with changed flash'"
   suspend resume resumeChanged : Call
   -- the flush advanced by one action, told any "number of actions already done"
-  step : ℕ → Call
+  advance : ℕ → Call
   -- bytes that the host writes at an offset of window memory
   write : ℕ → List ℕ → Call
 
@@ -28,7 +28,7 @@ called setup (send registers) m = mediate setup registers m .machine
 called setup suspend m = holding (suspended (m .session) .session) m
 called setup resume m = holding (resumed (m .session) .session) m
 called setup resumeChanged m = holding (resumedChanged (m .session) .session) m
-called setup (step done) m = lent (m .session) (advanced m done .flash) (m .memory)
+called setup (advance done) m = lent (m .session) (advanced m done .flash) (m .memory)
 called setup (write at bytes) m = lent (m .session) (m .flash) (written at bytes (m .memory))
 
 -- and a list of them

@@ -1,7 +1,7 @@
 -- Demand 3, whole: `demand-3`, over the definitions that the contracts cite.
 use mathlib.Core.Path.{_≡_, refl, sym, ap, _∙_, subst}
 use mathlib.Core.Bool.{Bool, true, false, cond, _&&_, not}
-use mathlib.Core.List.{List}
+use mathlib.Core.List.{List, _∷_}
 use Prim.Native.Nat.{ℕ, _≤_, min}
 use native.Mathlib.Omega.{arith}
 use lib.Dec.{ltb, eqb}
@@ -12,10 +12,12 @@ use Rattle.session.specs.declared.Session.{Session}
 use Rattle.session.specs.declared.Window.the-variants.{Write}
 use Rattle.session.specs.Machine.{Setup, Machine, lent}
 use Rattle.session.specs.Marks.{dirty}
-use Rattle.session.specs.Record.{fresh, clearBits, withVersion, withAccess}
+use Rattle.session.specs.Events.{controlLost, clearBits}
+use Rattle.session.specs.Record.{fresh, withVersion, withAccess}
 use Rattle.soundness.specs.Soundness.{sound, soundAt}
 use Rattle.session.specs.declared.suspension.Suspension.{Suspension}
-use Rattle.session.specs.Suspension.{controlLost, resumed}
+use Rattle.session.specs.Suspension.{resumed}
+use Rattle.soundness.proofs.Access.{resumed-sound}
 use Rattle.soundness.proofs.Facts.{part-within, measured}
 use Rattle.flush.specs.Actions.{flushActions}
 use Rattle.flush.specs.Window.{windowActions, performIn}
@@ -23,11 +25,13 @@ use Rattle.flush.proofs.Whole.{in-same, after-cut}
 use Rattle.registers.specs.Registers.{argument, number}
 use Rattle.mailbox.specs.Commands.{numbered, marked}
 use Rattle.refusals.specs.Refusals.{flushMarks}
+use Rattle.mailbox.specs.Runs.{send}
+use Rattle.invariants.proofs.Runs.{run-keeps}
 use Rattle.recovery.specs.Cut.{Event, cut, start, Kept, AtCut}
 use Rattle.recovery.specs.Demand.{Demand3}
-use Rattle.recovery.specs.Second.{Way, bySteps, byFlush, Succeeds, flashAfter, agreeing, opening, SecondRun, StepsSucceed, secondEnd, secondFlash, unstopped, AddsNone, unstoppedFlash}
-use Rattle.recovery.proofs.FirstList.{sound-as, kept-version, kept-window, kept-first, kept-size, kept-marks, marks-sound, Running, begins, runs, says, session-after, block-at, finished-at, old-at, other-at, length-at, resumed-kept, resume-said, steps-flash, steps-said}
-use Rattle.recovery.proofs.SecondList.{info-leaves, create-opens, Open, calls-open, flush-leaves}
+use Rattle.recovery.specs.Second.{Way, bySteps, byFlush, Succeeds, flashAfter, begun, agreeing, opening, SecondRun, StepsSucceed, secondEnd, secondFlash, unstopped, AddsNone, unstoppedFlash}
+use Rattle.recovery.proofs.FirstList.{kept-window, kept-first, kept-size, kept-marks, marks-sound, Running, begins, runs, says, session-after, block-at, finished-at, old-at, other-at, length-at, resumed-kept, resume-said, steps-flash, steps-said}
+use Rattle.recovery.proofs.SecondList.{fresh-as, info-leaves, create-opens, Open, calls-open, flush-leaves}
 
 -- ---- either way to flush does all actions of the window
 way-flash : (setup : Setup) (way : Way) (m : Machine) → Succeeds setup way m → AddsNone way (m .session)
@@ -53,9 +57,6 @@ module _ (setup : Setup) (s : Session) (flash memory : List ℕ) (sounds : sound
   e : sound (length flash) (length memory) s ≡ true
   e = measured setup (length flash) (length memory) s sounds .sound
 
-  known : s .version ≤ 2
-  known = measured setup (length flash) (length memory) s sounds .fits .known
-
   room : toBytes (s .size) ≤ length memory
   room = part-within (length flash) (length memory) s e .1
 
@@ -67,9 +68,7 @@ module _ (setup : Setup) (s : Session) (flash memory : List ℕ) (sounds : sound
   awake = resume-said s flash memory e w s .1
 
   sound₁ : sound (length flash) (length memory) (resumed s .session) ≡ true
-  sound₁ =
-      sound-as (length flash) (length memory) s (resumed s .session) e (subst (λ (v : ℕ). v ≤ 2) (sym (kept-version s (resumed s .session) k)) known)
-      (kept-window s (resumed s .session) k) (kept-first s (resumed s .session) k) (kept-size s (resumed s .session) k) (kept-marks s (resumed s .session) k)
+  sound₁ = resumed-sound (length flash) (length memory) s e
 
   unstopped-steps : StepsSucceed (unstopped (lent s flash memory))
   unstopped-steps = steps-said (resumed s .session) flash memory sound₁ (kept-window s (resumed s .session) k ∙ w) awake
@@ -149,11 +148,11 @@ module _ (setup : Setup) (s : Session) (flash memory : List ℕ) (sounds : sound
 
     second-sound : (q : Again) → sound (length (end q .flash)) (length (end q .memory)) (end q .session) ≡ true
     second-sound q =
-        let o = second-open q in
-        ap (λ (n : ℕ). sound n (length (end q .memory)) (end q .session)) (ap length (o .flash-is) ∙ length-at s flash memory e w (cut (lent s flash memory) events) r)
-        ∙ ap (λ (n : ℕ). sound (length flash) n (end q .session)) (o .memory-long)
-        ∙ sound-as (length flash) (length memory) s (end q .session) e (subst (λ (v : ℕ). v ≤ 2) (sym (o .agreed)) (omega arith))
-        (o .window ∙ sym w) (o .first-is) (o .size-is) (q .same-marks)
+        let f₁ = cut (lent s flash memory) events .machine .flash in
+        measured setup (length (end q .flash)) (length (end q .memory)) (end q .session)
+        (run-keeps setup (send (q .info) ∷ send (q .create) ∷ q .calls) (begun f₁ (q .other))
+        (fresh-as setup (length flash) (length memory) s sounds (length f₁) (length (q .other)) (length-at s flash memory e w (cut (lent s flash memory) events) r) (q .other-size)))
+        .sound
 
     second-steps : (q : Again) → StepsSucceed (end q)
     second-steps q =

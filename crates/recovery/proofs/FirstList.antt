@@ -16,11 +16,13 @@ use Rattle.session.specs.declared.Window.{Window}
 use Rattle.session.specs.declared.Window.the-variants.{Write}
 use Rattle.session.specs.Machine.{lent}
 use Rattle.session.specs.Marks.{isMarked}
-use Rattle.session.specs.Record.{setBits, clearBits, withAccess}
+use Rattle.session.specs.Events.{controlLost, setBits, clearBits}
+use Rattle.session.specs.Record.{withAccess}
 use Rattle.soundness.specs.Soundness.{marksSound, markable, sound}
 use Rattle.session.specs.declared.suspension.Suspension.{Suspension}
-use Rattle.session.specs.Suspension.{controlLost, answer as saying, suspended, resumed}
-use Rattle.soundness.proofs.Facts.{sizes, fitting, refitted, part-within}
+use Rattle.session.specs.Suspension.{answer as saying, suspended, resumed}
+use Rattle.soundness.proofs.Access.{suspended-sound, resumed-sound}
+use Rattle.soundness.proofs.Facts.{sizes, fitting, part-within}
 use Rattle.buffers.proofs.Replace.{range-at}
 use Rattle.flush.specs.Actions.{Action, flushActions, performAll}
 use Rattle.flush.specs.Cut.{passed, ahead, progress, blockAt, leaves}
@@ -30,18 +32,8 @@ use Rattle.flush.proofs.Cuts.{all-flush, all-take, all-drop, block-after, passe
 use Rattle.flush.proofs.Whole.{part-length, in-none, in-length, in-part, in-outside, in-append, in-same}
 use Rattle.recovery.specs.Cut.{Event, step, suspend, resume, State, Said, stepped, told, counted, after, answer, afterAll, answers, expected, accessAfter, actionsOf, start, inMarked, Kept}
 
--- ---- a session is as sound as another with the same window and marks, if its version is known
-pub sound-as : (flash memory : ℕ) (s t : Session) → sound flash memory s ≡ true → t .version ≤ 2 → t .window ≡ s .window → t .first ≡ s .first
-    → t .size ≡ s .size → t .marks ≡ s .marks → sound flash memory t ≡ true
-sound-as flash memory s t e v w f z m =
-    let g = fitting _ _ s (sizes flash memory s e .2) in
-    refitted flash memory s t e v (rw (w, f, z) (g .window)) (rw (w, z, m) (g .marks))
-
 -- what a session that differs in its suspension and event byte alone has of the other
 module _ (s t : Session) (k : Kept s t) where
-  pub kept-version : t .version ≡ s .version
-  kept-version = ap (λ (u : Session). u .version) k
-
   pub kept-window : t .window ≡ s .window
   kept-window = ap (λ (u : Session). u .window) k
 
@@ -97,6 +89,7 @@ module _ (s : Session) (flash memory : List ℕ) (e : sound (length flash) (leng
   -- what holds between two events
   pub record Running (st : State) : Type 0 where
     pub kept : Kept s (st .machine .session)
+    pub sounds : sound (length flash) (length memory) (st .machine .session) ≡ true
     pub memory-is : st .machine .memory ≡ memory
     pub few : st .count ≤ actionsOf s
     pub flash-is : st .machine .flash ≡ performIn s memory (take (st .count) (windowActions s)) flash
@@ -105,6 +98,7 @@ module _ (s : Session) (flash memory : List ℕ) (e : sound (length flash) (leng
   begins =
       record {
         kept = refl;
+        sounds = e;
         memory-is = refl;
         few = omega arith;
         flash-is = sym (in-none s flash fits memory room);
@@ -117,10 +111,7 @@ module _ (s : Session) (flash memory : List ℕ) (e : sound (length flash) (leng
 
   still-sound : (st : State) → Running st → sound (length (st .machine .flash)) (length (st .machine .memory)) (st .machine .session) ≡ true
   still-sound st r =
-      rw (same-length st r, r .memory-is)
-      (sound-as (length flash) (length memory) s (st .machine .session) e
-      (subst (λ (v : ℕ). v ≤ 2) (sym (kept-version s (st .machine .session) (r .kept))) (fitting _ _ s (sizes (length flash) (length memory) s e .2) .known))
-      (kept-window s (st .machine .session) (r .kept)) (kept-first s (st .machine .session) (r .kept)) (kept-size s (st .machine .session) (r .kept)) (kept-marks s (st .machine .session) (r .kept)))
+      rw (same-length st r, r .memory-is) (r .sounds)
 
   same-actions : (st : State) → Running st → windowActions (st .machine .session) ≡ windowActions s
   same-actions st r = ap flushActions (kept-marks s (st .machine .session) (r .kept))
@@ -159,6 +150,7 @@ module _ (s : Session) (flash memory : List ℕ) (e : sound (length flash) (leng
       let a = asleep (st .machine .session) (st .machine .memory) (st .count) (st .machine .flash) (still-sound st r) u in
       record {
         kept = r .kept;
+        sounds = r .sounds;
         memory-is = r .memory-is;
         few = rw u (r .few);
         flash-is = ap (λ (x : Advanced). x .flash) a ∙ r .flash-is ∙ reach (st .count) u;
@@ -167,6 +159,7 @@ module _ (s : Session) (flash memory : List ℕ) (e : sound (length flash) (leng
       let a = awake (st .machine .session) (st .machine .memory) (st .count) (st .machine .flash) (still-sound st r) u in
       record {
         kept = r .kept;
+        sounds = r .sounds;
         memory-is = r .memory-is;
         few = rw u (still-few (st .count) (r .few));
         flash-is = ap (λ (x : Advanced). x .flash) a ∙ stepped-flash st r ∙ reach (st .count) u;
@@ -201,9 +194,21 @@ module _ (s : Session) (flash memory : List ℕ) (e : sound (length flash) (leng
   goes : (event : Event) (st : State) → Running st → Running (after N event st)
   goes step st r = step-goes st r
   goes suspend st r =
-      record { kept = suspended-kept (st .machine .session) (r .kept); memory-is = r .memory-is; few = r .few; flash-is = r .flash-is }
+      record {
+        kept = suspended-kept (st .machine .session) (r .kept);
+        sounds = suspended-sound (length flash) (length memory) (st .machine .session) (r .sounds);
+        memory-is = r .memory-is;
+        few = r .few;
+        flash-is = r .flash-is;
+      }
   goes resume st r =
-      record { kept = resumed-kept (st .machine .session) (r .kept); memory-is = r .memory-is; few = r .few; flash-is = r .flash-is }
+      record {
+        kept = resumed-kept (st .machine .session) (r .kept);
+        sounds = resumed-sound (length flash) (length memory) (st .machine .session) (r .sounds);
+        memory-is = r .memory-is;
+        few = r .few;
+        flash-is = r .flash-is;
+      }
 
   pub runs : (events : List Event) (st : State) → Running st → Running (afterAll N events st)
   runs [] st r = r

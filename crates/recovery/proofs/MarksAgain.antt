@@ -29,23 +29,7 @@ mark-past zero (suc b) (m ∷ ms) e h = mark-past zero b ms (both (leb m 0) (mar
 mark-past (suc n) zero (m ∷ ms) e h = absurd (not-suc-le-zero h)
 mark-past (suc n) (suc b) (m ∷ ms) e h = mark-past n b ms (both (leb m 2) (marksSound n ms) e .1) (le-of-suc-le-suc h)
 
--- ---- the first b of them, and none after
-none-sound : (n k : ℕ) → marksSound n (replicate k 0) ≡ true
-none-sound n zero = refl
-none-sound zero (suc k) = none-sound zero k
-none-sound (suc n) (suc k) = none-sound n k
-
-pub front-sound : (n b k : ℕ) (ms : List ℕ) → marksSound n ms ≡ true → marksSound n (take b ms ++ replicate k 0) ≡ true
-front-sound n zero k ms e = none-sound n k
-front-sound n (suc b) k [] e = none-sound n k
-front-sound zero (suc b) k (m ∷ ms) e =
-    let p = both (leb m 0) (marksSound zero ms) e in
-    rw (p .0) (front-sound zero b k ms (p .1))
-front-sound (suc n) (suc b) k (m ∷ ms) e =
-    let p = both (leb m 2) (marksSound n ms) e in
-    rw (p .0) (front-sound n b k ms (p .1))
-
--- one more
+-- ---- the first b of them, and none after: one more
 module _ (ms : List ℕ) (b k : ℕ) (h : b < length ms) where
   next : take b ms ++ (getD ms b 0 ∷ replicate k 0) ≡ take (suc b) ms ++ replicate k 0
   next =

@@ -21,18 +21,20 @@ use Rattle.session.specs.declared.Window.{Window}
 use Rattle.session.specs.declared.Window.the-variants.{Write}
 use Rattle.session.specs.Machine.{Setup, Machine, lent}
 use Rattle.session.specs.Record.{fresh, withVersion, withWindow}
-use Rattle.soundness.specs.Soundness.{activeSound, windowSound, markable, marksSound, sound, soundAt}
-use Rattle.soundness.proofs.Facts.{refitted-at, part-within, Measured, measured}
+use Rattle.soundness.specs.Soundness.{activeSound, windowSound, marksSound, soundAt, soundIn}
+use Rattle.soundness.proofs.Facts.{part-within, Measured, measured}
 use Rattle.session.specs.Marks.{dirty, erasedMark}
 use Rattle.registers.specs.Registers.{sequenceOf, number}
 use Rattle.mailbox.specs.Commands.{numbered, sizeFor}
+use Rattle.mailbox.specs.Runs.{Call, send, write, written, called, calledAll}
+use Rattle.invariants.proofs.Runs.{write-within, run-keeps}
 use Rattle.recovery.specs.Cut.{cut}
 use Rattle.recovery.specs.Recipe.{getInfo, reopen, markDirty, markErased, former, restored, restoredFrom, recipe, flushAll, ByRecipe, Recovers}
-use Rattle.recovery.specs.Second.{response, sent, Call, send, write, AllAllowed, called, calledAll, Way, bySteps, byFlush, Succeeds, begun, agreeing, opening, marking}
+use Rattle.recovery.specs.Second.{response, sent, AllAllowed, Way, bySteps, byFlush, Succeeds, begun, agreeing, opening, marking}
 use Rattle.recovery.proofs.Demand.{demand-3}
 use Rattle.recovery.proofs.FirstList.{marks-sound}
-use Rattle.recovery.proofs.MarksAgain.{mark-most, mark-past, front-sound, mark-more, mark-none}
-use Rattle.recovery.proofs.SecondList.{info-leaves, create-opens, Open, calls-open}
+use Rattle.recovery.proofs.MarksAgain.{mark-most, mark-past, mark-more, mark-none}
+use Rattle.recovery.proofs.SecondList.{fresh-as, info-leaves, create-opens, Open, calls-open}
 use Rattle.recovery.proofs.Sending.{word, hinted, info-taken, Serving, markedAs, create-taken, create-session, dirty-sent, erase-sent, flush-taken}
 
 -- ---- lists of calls one after the other
@@ -72,12 +74,6 @@ module _ (setup : Setup) (s : Session) (flash memory : List ℕ) (sounds : sound
   low : s .first + s .size ≤ 65535
   low = omega (arith, d .fits .in-flash, d .flash-sized .few)
 
-  -- another session on buffers as long is sound too
-  refit : (f x : ℕ) (t : Session) → f ≡ length flash → x ≡ length memory → t .version ≤ 2
-      → windowSound (t .window) (t .first) (t .size) (roundUp (length flash)) (roundUp (length memory)) ≡ true
-      → marksSound (markable (t .window) (t .size)) (t .marks) ≡ true → soundAt setup f x t ≡ true
-  refit f x t p q v k ms = rw (p, q) (refitted-at setup (length flash) (length memory) s t sounds v k ms)
-
   -- a window memory has the former bytes of the dirty ones among the first b blocks
   abbrev Held : ℕ → List ℕ → Type 0
   Held b bytes = (x : ℕ) → x < toBytes b → getD (s .marks) (x / blockBytes) 0 ≡ dirty → getD bytes x 0 ≡ getD memory x 0
@@ -85,6 +81,7 @@ module _ (setup : Setup) (s : Session) (flash memory : List ℕ) (sounds : sound
   -- ---- between two blocks of the recipe: the first b are done, k are ahead
   record Ready (b k : ℕ) (m : Machine) : Type 0 where
     opened : Open (s .first) (s .size) (length memory) flash m
+    sound-so-far : soundIn setup m ≡ true
     number : ℕ
     previous : m .session .previous ≡ Number number
     earlier : number < 2 + b
@@ -93,13 +90,10 @@ module _ (setup : Setup) (s : Session) (flash memory : List ℕ) (sounds : sound
 
   -- such a machine takes the next number, also with other bytes in its window
   serving : (b k : ℕ) (m : Machine) (r : Ready b k m) (n : Machine) → n .session ≡ m .session → Open (s .first) (s .size) (length memory) flash n
-      → Serving setup (r .number) n
-  serving b k m r n same o =
+      → soundIn setup n ≡ true → Serving setup (r .number) n
+  serving b k m r n same o sounds =
       record {
-        sounds =
-            refit (length (n .flash)) (length (n .memory)) (n .session) (ap length (o .flash-is)) (o .memory-long) (omega (arith, o .agreed))
-            (rw (o .window, o .first-is, o .size-is) active)
-            (rw (o .window, o .size-is, same, r .marks) (front-sound (s .size) b k (s .marks) fine));
+        sounds = sounds;
         agreed = o .agreed;
         awake = o .awake;
         previous = ap (λ (t : Session). t .previous) same ∙ r .previous;
@@ -151,6 +145,7 @@ module _ (setup : Setup) (s : Session) (flash memory : List ℕ) (sounds : sound
               λ m r.
               record {
                 opened = r .opened;
+                sound-so-far = r .sound-so-far;
                 number = r .number;
                 previous = r .previous;
                 earlier = omega (arith, r .earlier);
@@ -162,10 +157,11 @@ module _ (setup : Setup) (s : Session) (flash memory : List ℕ) (sounds : sound
     -- after the command that marks it
     marked-block : (m n : Machine) → Ready b (suc k) m → (registers : List ℕ) (mark : ℕ) (bytes : List ℕ) → getD (s .marks) b 0 ≡ mark
         → n ≡ markedAs m registers (replace b (mark ∷ []) (m .session .marks)) bytes → sequenceOf registers ≡ 2 + b
-        → Open (s .first) (s .size) (length memory) flash n → Held (suc b) bytes → Ready (suc b) k n
-    marked-block m n r registers mark bytes e left q o h =
+        → Open (s .first) (s .size) (length memory) flash n → soundIn setup n ≡ true → Held (suc b) bytes → Ready (suc b) k n
+    marked-block m n r registers mark bytes e left q o sounds h =
         record {
           opened = o;
+          sound-so-far = sounds;
           number = 2 + b;
           previous = ap (λ (x : Machine). x .session .previous) left ∙ ap Number q;
           earlier = omega arith;
@@ -194,10 +190,11 @@ module _ (setup : Setup) (s : Session) (flash memory : List ℕ) (sounds : sound
       dirty-allowed : AllAllowed (s .size) (write (toBytes b) (former memory b) ∷ send (markDirty b) ∷ [])
       dirty-allowed = (omega (arith, long, inside), (inl refl, tt))
 
-      dirty-held : (m : Machine) → Ready b (suc k) m → Held (suc b) (replace (toBytes b) (former memory b) (m .memory))
+      dirty-held : (m : Machine) → Ready b (suc k) m → Held (suc b) (written (toBytes b) (former memory b) (m .memory))
       dirty-held m r =
-          held-more (m .memory) (replace (toBytes b) (former memory b) (m .memory)) (r .held)
-          (λ x h. replace-before (toBytes b) (former memory b) (m .memory) fits x 0 h) here
+          subst (Held (suc b)) (sym (write-within (toBytes b) (former memory b) (m .memory) fits))
+          (held-more (m .memory) (replace (toBytes b) (former memory b) (m .memory)) (r .held)
+          (λ x h. replace-before (toBytes b) (former memory b) (m .memory) fits x 0 h) here)
         where
           fits : toBytes b + length (former memory b) ≤ length (m .memory)
           fits = omega (arith, long, inside, room, r .opened .memory-long)
@@ -219,9 +216,11 @@ module _ (setup : Setup) (s : Session) (flash memory : List ℕ) (sounds : sound
                 λ m r.
                 let n : Machine = called setup (write (toBytes b) (former memory b)) m in
                 let o = opens (write (toBytes b) (former memory b) ∷ []) (dirty-allowed .0, tt) m (r .opened) in
-                let left = dirty-sent setup (r .number) n (serving b (suc k) m r n refl o) (markDirty b) (r .earlier) (o .window) b (word b small) refl (reach n o 0 e) refl in
+                let sounds = run-keeps setup (write (toBytes b) (former memory b) ∷ []) m (r .sound-so-far) in
+                let left = dirty-sent setup (r .number) n (serving b (suc k) m r n refl o sounds) (markDirty b) (r .earlier) (o .window) b (word b small) refl (reach n o 0 e) refl in
                 marked-block m (sent setup (markDirty b) n) r (markDirty b) dirty (n .memory) e left refl
-                (opens (write (toBytes b) (former memory b) ∷ send (markDirty b) ∷ []) dirty-allowed m (r .opened)) (dirty-held m r);
+                (opens (write (toBytes b) (former memory b) ∷ send (markDirty b) ∷ []) dirty-allowed m (r .opened))
+                (run-keeps setup (send (markDirty b) ∷ []) n sounds) (dirty-held m r);
           }
 
     -- an erased one
@@ -232,9 +231,9 @@ module _ (setup : Setup) (s : Session) (flash memory : List ℕ) (sounds : sound
           goes =
               λ m r.
               let o = r .opened in
-              let left = erase-sent setup (r .number) m (serving b (suc k) m r m refl o) (markErased b) (r .earlier) (o .window) b (word b small) refl (reach m o 1 e) refl in
+              let left = erase-sent setup (r .number) m (serving b (suc k) m r m refl o (r .sound-so-far)) (markErased b) (r .earlier) (o .window) b (word b small) refl (reach m o 1 e) refl in
               marked-block m (sent setup (markErased b) m) r (markErased b) erasedMark (erased (toBytes b) blockBytes (m .memory)) e left refl
-              (opens (send (markErased b) ∷ []) (inr refl, tt) m o)
+              (opens (send (markErased b) ∷ []) (inr refl, tt) m o) (run-keeps setup (send (markErased b) ∷ []) m (r .sound-so-far))
               (held-more (m .memory) (erased (toBytes b) blockBytes (m .memory)) (r .held)
               (λ x h. erased-outside (toBytes b) blockBytes (m .memory) (omega (arith, room, within b 1 e, o .memory-long)) x (inl h))
               (λ x l h d. absurd (omega arith)));
@@ -276,9 +275,12 @@ module _ (setup : Setup) (s : Session) (flash memory : List ℕ) (sounds : sound
 
   -- ---- the window is opened again, on a machine that was found with some other window memory
   module _ (other : List ℕ) (other-size : length other ≡ length memory) where
+    begun-sound : soundIn setup (begun flash other) ≡ true
+    begun-sound = fresh-as setup (length flash) (length memory) s sounds (length flash) (length other) refl other-size
+
     -- GET_INFO
     info-ok : response setup getInfo (begun flash other) ≡ 1
-    info-ok = info-taken setup flash other (refit (length flash) (length other) fresh refl other-size (omega arith) refl refl)
+    info-ok = info-taken setup flash other begun-sound
 
     abbrev agreed : Machine
     agreed = lent (withVersion 2 (numbered fresh getInfo)) flash other
@@ -301,6 +303,7 @@ module _ (setup : Setup) (s : Session) (flash memory : List ℕ) (sounds : sound
                     subst (λ (n : ℕ). Open (s .first) (s .size) n flash (sent setup (reopen s) agreed)) other-size
                     (create-opens setup (agreed .session) (reopen s) flash other refl taken refl (s .first) (s .size) refl refl
                     (ap (λ (t : Session). t .first) window) (ap (λ (t : Session). t .size) window));
+                sound-so-far = run-keeps setup (send (reopen s) ∷ []) agreed (serves .sounds);
                 number = 1;
                 previous = ap (λ (t : Session). t .previous) window;
                 earlier = omega arith;
@@ -312,7 +315,7 @@ module _ (setup : Setup) (s : Session) (flash memory : List ℕ) (sounds : sound
         serves : Serving setup 0 agreed
         serves =
             record {
-              sounds = refit (length flash) (length other) (agreed .session) refl other-size (omega arith) refl refl;
+              sounds = subst (λ (m : Machine). soundIn setup m ≡ true) left (run-keeps setup (send getInfo ∷ []) (begun flash other) begun-sound);
               agreed = refl;
               awake = refl;
               previous = refl;
@@ -347,7 +350,7 @@ module _ (setup : Setup) (s : Session) (flash memory : List ℕ) (sounds : sound
     ended = carried .goes (opening setup getInfo (reopen s) flash other) (again .ready)
 
     flushes : Succeeds setup (byFlush flushAll) end
-    flushes = (refl, flush-taken setup (ended .number) end (serving 64 0 end ended end refl (ended .opened)) flushAll (ended .earlier) refl (ended .opened .window))
+    flushes = (refl, flush-taken setup (ended .number) end (serving 64 0 end ended end refl (ended .opened) (ended .sound-so-far)) flushAll (ended .earlier) refl (ended .opened .window))
 
     second : (flash₀ : List ℕ) (way : Way) → Succeeds setup way end → ByRecipe setup (lent s flash₀ memory) flash other way
     second flash₀ way ok =

@@ -7,9 +7,9 @@ use Prim.Native.Nat.{ℕ, _+_, _≤_, min}
 use native.Mathlib.Omega.{arith}
 use lib.Dec.{leb, ltb}
 use lib.ListN.{length, getD}
-use borrow.Author.Tests.{leb-false, not-false}
+use borrow.Author.Tests.{leb-true}
 use Rattle.units.specs.Units.{toBytes, roundUp}
-use Rattle.units.proofs.Cases.{decided}
+use Rattle.units.proofs.Cases.{decided, both}
 use Rattle.buffers.specs.Ranges.{range, replace}
 use Rattle.buffers.proofs.Replace.{range-length, replace-length}
 use Rattle.chip.specs.Actions.{erased}
@@ -19,7 +19,7 @@ use Rattle.session.specs.declared.Window.the-variants.{Write}
 use Rattle.session.specs.Machine.{Setup, Machine, lent}
 use Rattle.session.specs.Marks.{dirty, erasedMark}
 use Rattle.session.specs.Record.{clean, fresh, withVersion, withMarks}
-use Rattle.soundness.specs.Soundness.{sound, sessionSound, soundIn}
+use Rattle.soundness.specs.Soundness.{sizesSound, sound, sessionSound, soundAt, soundIn}
 use Rattle.soundness.proofs.Facts.{part-within, Measured, measured}
 use Rattle.flush.specs.Actions.{Action, flushActions, actionsFrom, blockActions}
 use Rattle.flush.specs.Window.{windowActions, performIn, flushWhole}
@@ -34,8 +34,11 @@ use Rattle.mailbox.specs.Table.{Command, from, getInfo, createWriteWindow, mark
 use Rattle.mailbox.specs.Mediator.{commandAt, commandIn, reasonOf, reasonIn, answerTo, mediate}
 use Rattle.refusals.proofs.Accepting.{Passed, passed, named-within}
 use Rattle.mailbox.proofs.Mediating.{mediate-as, each-command}
-use Rattle.mailbox.proofs.Front.{size-fits}
-use Rattle.recovery.specs.Second.{response, sent, Call, send, write, Allowed, AllAllowed, called, calledAll, begun}
+use Rattle.mailbox.specs.Runs.{Call, send, suspend, resume, resumeChanged, advance, write, written, called, calledAll}
+use Rattle.mailbox.proofs.Lengths.{memory-long}
+use Rattle.invariants.proofs.Kept.{fresh-sound}
+use Rattle.invariants.proofs.Runs.{write-long}
+use Rattle.recovery.specs.Second.{response, sent, Allowed, AllAllowed, begun}
 
 -- ---- a response of 1 is that of a command that no check refused
 module _ (setup : Setup) (s : Session) (registers flash memory : List ℕ) where
@@ -140,6 +143,14 @@ pub record Open (first size long : ℕ) (flash : List ℕ) (m : Machine) : Type 
   pub flash-is : m .flash ≡ flash
   pub memory-long : length (m .memory) ≡ long
 
+-- ---- a fresh session is sound on buffers as long as those of a sound one
+pub fresh-as : (setup : Setup) (flash memory : ℕ) (s : Session) → soundAt setup flash memory s ≡ true
+    → (f x : ℕ) → f ≡ flash → x ≡ memory → soundAt setup f x fresh ≡ true
+unfolding soundAt sound
+fresh-as setup flash memory s e f x p q =
+    let b = both (sound flash memory s) _ e in
+    rw (p, q) (fresh-sound setup flash memory (both (sizesSound flash memory) _ (b .0) .0) (leb-true _ _ (b .1)))
+
 -- ---- GET_INFO on a fresh session
 pub info-leaves : (setup : Setup) (registers flash memory : List ℕ) → commandOf registers ≡ getInfo .code → response setup registers (begun flash memory) ≡ 1
     → sent setup registers (begun flash memory)
@@ -158,35 +169,6 @@ module _ (setup : Setup) (s : Session) (registers flash memory : List ℕ) (c : 
   create-flash : mediate setup registers (lent s flash memory) .machine .flash ≡ flash
   create-flash = ap (λ (o : Outcome). o .machine .flash) create-leaves ∙ flush-clean (numbered s registers) memory flash none
 
-  argued : Passed (soundIn setup (lent s flash memory)) s registers (from 1 (s .version)) Access (leb (roundUp (length flash)) (number 2 0 registers))
-  unfolding commandAt
-  argued =
-      passed (soundIn setup (lent s flash memory)) s registers (from 1 (s .version)) Access (leb (roundUp (length flash)) (number 2 0 registers))
-      (accepted-at setup s registers flash memory (createWriteWindow .code) c ok)
-
-  create-memory : length (mediate setup registers (lent s flash memory) .machine .memory) ≡ length memory
-  create-memory =
-      ap (λ (o : Outcome). length (o .machine .memory)) create-leaves
-      ∙ ap (λ (f : List ℕ). length (replace 0 (range (toBytes o) (toBytes z) f) memory)) (flush-clean (numbered s registers) memory flash none)
-      ∙ replace-length 0 (range (toBytes o) (toBytes z) flash) memory (omega (arith, long, fits .1, m .memory-sized .whole))
-    where
-      m : Measured (length flash) (length memory) s
-      m = measured setup (length flash) (length memory) s (argued .sounds)
-
-      o : ℕ
-      o = number 2 0 registers
-
-      z : ℕ
-      z = sizeFor (roundUp (length flash)) (roundUp (length memory)) o (hint s registers)
-
-      fits : (o + z ≤ roundUp (length flash)) × (z ≤ roundUp (length memory))
-      fits =
-          size-fits (roundUp (length flash)) (roundUp (length memory)) o (hint s registers)
-          (leb-false (roundUp (length flash)) (number 2 0 registers) (argued .argued))
-
-      long : length (range (toBytes o) (toBytes z) flash) ≡ toBytes z
-      long = range-length (toBytes o) (toBytes z) flash (omega (arith, fits .0, m .flash-sized .whole))
-
   pub create-opens : (first size : ℕ) → s .version ≡ 2 → s .suspended ≡ false
       → mediate setup registers (lent s flash memory) .machine .session .first ≡ first → mediate setup registers (lent s flash memory) .machine .session .size ≡ size
       → Open first size (length memory) flash (mediate setup registers (lent s flash memory) .machine)
@@ -198,7 +180,7 @@ module _ (setup : Setup) (s : Session) (registers flash memory : List ℕ) (c : 
         first-is = f;
         size-is = z;
         flash-is = create-flash;
-        memory-long = create-memory;
+        memory-long = memory-long setup registers (lent s flash memory);
       }
 
 -- ---- the list: every command and host write keeps the window open and the flash as it is
@@ -230,15 +212,13 @@ module _ (setup : Setup) (first size long : ℕ) (flash : List ℕ) (room : toBy
         → Open first size long flash (lent (marked mark (numbered (m .session) registers) registers) (m .flash) memory)
     marked-same mark memory l = kept-open m o (marked mark (numbered (m .session) registers) registers) refl refl refl refl refl memory l
 
-    -- a command that marks, by its row
-    named : (known : Bool) → reasonFor (soundIn setup m) (m .session) registers known WriteWindow (not (blocksNamed (m .session) registers .inside)) ≡ Accepted
+    -- an ERASE leaves the window memory as long as it was
+    erased-long : commandOf registers ≡ erase .code → reasonIn setup registers m ≡ Accepted
         → length (erased (toBytes (blocksNamed (m .session) registers .start)) (toBytes (blocksNamed (m .session) registers .count)) (m .memory)) ≡ length (m .memory)
-    named known a =
-        let p = passed (soundIn setup m) (m .session) registers known WriteWindow (not (blocksNamed (m .session) registers .inside)) a in
-        let z = measured setup (length (m .flash)) (length (m .memory)) (m .session) (p .sounds) in
-        let n = named-within (m .session) registers (not-false (blocksNamed (m .session) registers .inside) (p .argued)) in
-        erased-length (toBytes (blocksNamed (m .session) registers .start)) (toBytes (blocksNamed (m .session) registers .count)) (m .memory)
-        (omega (arith, n, z .fits .in-memory, z .memory-sized .whole))
+    unfolding commandAt
+    erased-long c a =
+        sym (ap (λ (x : Outcome). length (x .machine .memory)) (carried setup (m .session) registers (m .flash) (m .memory) (erase .code) c a))
+        ∙ memory-long setup registers m
 
     accepted-open : reasonIn setup registers m ≡ Accepted → Open first size long flash (left Accepted)
     unfolding answerTo commandAt
@@ -248,9 +228,8 @@ module _ (setup : Setup) (first size long : ℕ) (flash : List ℕ) (room : toBy
         subst (λ (n : ℕ). Open first size long flash (commandAt n .leaves setup registers (numberedIn registers m) .machine)) (sym (is ∙ e))
         (marked-same dirty (m .memory) refl))
         (λ (e : k ≡ erase .code).
-        let row = ap (λ (n : ℕ). reasonOf (commandAt n) (soundIn setup m) registers m) (sym (is ∙ e)) ∙ a in
         subst (λ (n : ℕ). Open first size long flash (commandAt n .leaves setup registers (numberedIn registers m) .machine)) (sym (is ∙ e))
-        (marked-same erasedMark (erased (toBytes (blocksNamed (m .session) registers .start)) (toBytes (blocksNamed (m .session) registers .count)) (m .memory)) (named (from 2 (m .session .version)) row)))
+        (marked-same erasedMark (erased (toBytes (blocksNamed (m .session) registers .start)) (toBytes (blocksNamed (m .session) registers .count)) (m .memory)) (erased-long (is ∙ e) a)))
         w
 
     broken-open : Open first size long flash (left Argument)
@@ -286,8 +265,11 @@ module _ (setup : Setup) (first size long : ℕ) (flash : List ℕ) (room : toBy
   call-open : (call : Call) → Allowed size call → (m : Machine) → Open first size long flash m → Open first size long flash (called setup call m)
   call-open (send registers) w m o = sent-open m o registers (commandOf registers) refl w
   call-open (write at bytes) w m o =
-      kept-open m o (m .session) refl refl refl refl refl (replace at bytes (m .memory))
-      (replace-length at bytes (m .memory) (omega (arith, o .memory-long)))
+      kept-open m o (m .session) refl refl refl refl refl (written at bytes (m .memory)) (write-long at bytes (m .memory))
+  call-open suspend w m o = absurd w
+  call-open resume w m o = absurd w
+  call-open resumeChanged w m o = absurd w
+  call-open (advance done) w m o = absurd w
 
   pub calls-open : (calls : List Call) → AllAllowed size calls → (m : Machine) → Open first size long flash m → Open first size long flash (calledAll setup calls m)
   calls-open [] w m o = o

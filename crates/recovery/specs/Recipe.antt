@@ -14,9 +14,10 @@ use Rattle.session.specs.Machine.{Setup, Machine}
 use Rattle.session.specs.Marks.{dirty, erasedMark}
 use Rattle.soundness.specs.Soundness.{soundIn}
 use Rattle.registers.specs.Registers.{bytesOf}
+use Rattle.mailbox.specs.Runs.{Call, send, write}
 use Rattle.mailbox.specs.Table as table
 use Rattle.recovery.specs.Cut.{Event, cut}
-use Rattle.recovery.specs.Second.{Call, send, write, Way, bySteps, byFlush, SecondRun}
+use Rattle.recovery.specs.Second.{Way, bySteps, byFlush, SecondRun}
 
 -- the 16 registers of a command: its code, its sequence number, and two 16-bit arguments
 abbrev pub command : ℕ → ℕ → ℕ → ℕ → List ℕ

@@ -6,7 +6,6 @@ use mathlib.Core.Logic.{_⊎_}
 use mathlib.Core.Path.{_≡_}
 use lib.ListN.{length, getD, replicate}
 use Rattle.units.specs.Units.{toBytes, blockHolding}
-use Rattle.buffers.specs.Ranges.{replace}
 use Rattle.session.specs.declared.Session.{Session}
 use Rattle.session.specs.Machine.{Setup, Machine, lent, holding}
 use Rattle.session.specs.Marks.{programs}
@@ -16,6 +15,7 @@ use Rattle.registers.specs.Registers.{commandOf}
 use Rattle.mailbox.specs.Commands.{flushing}
 use Rattle.mailbox.specs.Table.{getInfo, createWriteWindow, markDirty, flush, erase}
 use Rattle.mailbox.specs.Mediator.{mediate}
+use Rattle.mailbox.specs.Runs.{Call, send, suspend, resume, resumeChanged, advance, write, calledAll}
 use Rattle.recovery.specs.Cut.{stepped, step, afterAll, answers, actionsOf, start}
 
 -- a mailbox command: its response register, and what it leaves
@@ -25,28 +25,18 @@ response setup registers m = getD (mediate setup registers m .registers) 13 0
 abbrev pub sent : Setup → List ℕ → Machine → Machine
 sent setup registers m = mediate setup registers m .machine
 
--- "any list of MARK_DIRTY and ERASE commands, refused ones included, with host writes in the window": a command with any registers, or bytes
--- written at an offset of the window
-pub data Call : Type 0 where
-  send : List ℕ → Call
-  write : ℕ → List ℕ → Call
-
+-- "any list of MARK_DIRTY and ERASE commands, refused ones included, with host writes in the window", and no other call
 abbrev pub Allowed : ℕ → Call → Type 0
 Allowed size (send registers) = (commandOf registers ≡ markDirty .code) ⊎ (commandOf registers ≡ erase .code)
 Allowed size (write at bytes) = at + length bytes ≤ toBytes size
+Allowed size suspend = ⊥
+Allowed size resume = ⊥
+Allowed size resumeChanged = ⊥
+Allowed size (advance done) = ⊥
 
 abbrev pub AllAllowed : ℕ → List Call → Type 0
 AllAllowed size [] = Unit
 AllAllowed size (call ∷ calls) = Allowed size call × AllAllowed size calls
-
--- what the list leaves
-abbrev pub called : Setup → Call → Machine → Machine
-called setup (send registers) m = sent setup registers m
-called setup (write at bytes) m = lent (m .session) (m .flash) (replace at bytes (m .memory))
-
-abbrev pub calledAll : Setup → List Call → Machine → Machine
-calledAll setup [] m = m
-calledAll setup (call ∷ calls) m = calledAll setup calls (called setup call m)
 
 -- "flushes by FLUSH or by N steps, their count from 0"; N is that of the session, which has the first list's marks
 pub data Way : Type 0 where
