@@ -4,7 +4,7 @@ use mathlib.Core.Bool.{Bool, true, false, not}
 use mathlib.Core.List.{List, [], _∷_}
 use mathlib.Core.Logic.{⊎-elim}
 use mathlib.Core.Option.{Option, none, some}
-use Prim.Native.Nat.{ℕ, _+_, _≤_, min}
+use Prim.Native.Nat.{ℕ, _+_, _-_, _≤_, min}
 use native.Mathlib.Omega.{arith}
 use lib.ListN.{length, take, drop, length-append, length-take, length-drop}
 use lib.Seq.{take-all}
@@ -136,7 +136,7 @@ access-same false s t e = refl
 call-events : (setup : Setup) (call : Call) (m : Machine)
     → clearBits changeable (called setup call m .session .events) ≡ clearBits changeable (m .session .events)
 call-events setup (send registers) m =
-    same-part acknowledgeable 0xbc (mediate setup registers m .machine .session .events) (m .session .events) refl (command-events setup registers m)
+    same-part acknowledgeable (0xff - changeable) (mediate setup registers m .machine .session .events) (m .session .events) refl (command-events setup registers m)
 call-events setup suspend m =
     let s = m .session in
     access-same (not (s .suspended)) s (withAccess true (setBits controlLost (s .events)) s) (set-within changeable controlLost (s .events) refl)
@@ -173,10 +173,10 @@ run-keeps setup (call ∷ calls) m e =
     run-keeps setup calls (called setup call m) (rw (long .0, long .1) (call-sound setup call m e))
 
 pub run-from-fresh : RunFromFresh
-run-from-fresh setup flash memory sizes most calls =
+run-from-fresh setup flash memory whole most calls =
     let start = lent fresh flash memory in
     let m = calledAll setup calls start in
-    let e = run-keeps setup calls start (fresh-sound setup (length flash) (length memory) sizes most) in (
+    let e = run-keeps setup calls start (fresh-sound setup (length flash) (length memory) whole most) in (
       e,
       record {
         lost = told (m .session .suspended) (m .session .events) (measured setup (length (m .flash)) (length (m .memory)) (m .session) e .fits .access);

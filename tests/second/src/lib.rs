@@ -1,5 +1,7 @@
 //! An independent second implementation of the controller's side of hiomap
-//! versions 1 and 2, written from document 01 and QUESTIONS.md alone.
+//! versions 1 and 2, written from document 01 and QUESTIONS.md alone, then
+//! brought to ticket 1 of 02, beside which only the event definitions and ACK
+//! of the source documents 000, 002 and 004 were read. No other ticket is in.
 //! It is plain on purpose: it is there to be compared with.
 
 /// Bytes in a block, which is also the erase granule.
@@ -21,6 +23,9 @@ pub const EVENT_PROTOCOL_RESET: u8 = 0x01;
 pub const EVENT_WINDOW_RESET: u8 = 0x02;
 pub const EVENT_FLASH_LOST: u8 = 0x40;
 pub const EVENT_DAEMON_READY: u8 = 0x80;
+/// The bits that ACK can clear; the other two named ones are conditions, not
+/// events (ticket 1).
+const ACK_CLEARS: u8 = EVENT_PROTOCOL_RESET | EVENT_WINDOW_RESET;
 
 pub const SUCCESS: u8 = 1;
 pub const PARAM_ERROR: u8 = 2;
@@ -110,11 +115,21 @@ fn marks_sound(s: &Session) -> bool {
     })
 }
 
-/// The sizes keep 01's numbers and the session is sound for them.
+/// Bit 0x40 is set exactly while access is suspended (ticket 1). The other
+/// bits are free.
+fn events_sound(s: &Session) -> bool {
+    (s.events & EVENT_FLASH_LOST != 0) == s.suspended
+}
+
+/// The sizes keep 01's numbers and the session is sound for them, by 01 and
+/// ticket 1.
 pub fn sound(s: &Session, flash_len: usize, window_len: usize) -> bool {
     match (whole_blocks(flash_len, 65_535), whole_blocks(window_len, MARKS)) {
         (Some(flash_blocks), Some(window_blocks)) => {
-            s.version <= 2 && window_sound(s, flash_blocks, window_blocks) && marks_sound(s)
+            s.version <= 2
+                && events_sound(s)
+                && window_sound(s, flash_blocks, window_blocks)
+                && marks_sound(s)
         }
         _ => false,
     }
@@ -125,6 +140,8 @@ pub fn sound_with_lpc(s: &Session, flash_len: usize, window_len: usize, b: u16) 
     sound(s, flash_len, window_len) && usize::from(b) + window_len / BLOCK <= 65_536
 }
 
+/// Suspends access. This and both resumes go by the suspension and not by bit
+/// 0x40, on any session, sound or not.
 pub fn suspend(s: &mut Session) -> bool {
     if s.suspended {
         return false;
@@ -514,8 +531,9 @@ fn flush_command(s: &mut Session, regs: &[u8; 16], flash: &mut [u8], window: &[u
     done(flush(s, flash, window))
 }
 
+/// Clears those of the bits 0x01 and 0x02 that argument 0 names (ticket 1).
 fn ack(s: &mut Session, regs: &[u8; 16]) -> Answer {
-    s.events &= !arg8(regs, 0);
+    s.events &= !(arg8(regs, 0) & ACK_CLEARS);
     done(0)
 }
 
@@ -1025,7 +1043,7 @@ flash 0 0 0 300
     fn order_system_error_first() {
         let mut rig = Rig::new(2);
         rig.s.previous = Some(5);
-        rig.s.suspended = true;
+        assert!(suspend(&mut rig.s));
         rig.s.marks[0] = DIRTY;
         for code in [GET_INFO, 200, MARK_DIRTY] {
             let before = rig.clone();
@@ -1036,7 +1054,7 @@ flash 0 0 0 300
             let mut expected = regs(code, 5, &[]);
             expected[13] = SYSTEM_ERROR;
             expected[14] = 0xAB;
-            expected[15] = 0x81;
+            expected[15] = 0xC1;
             assert_eq!(after, expected);
             assert!(rig == before);
         }
@@ -1046,7 +1064,7 @@ flash 0 0 0 300
     fn order_sequence_before_unknown() {
         for (version, sequence_code) in [(2, 8), (1, 2), (0, 2)] {
             let mut rig = Rig::new(version);
-            rig.s.suspended = true;
+            assert!(suspend(&mut rig.s));
             rig.s.previous = Some(5);
             assert_eq!(rig.raw(regs(11, 5, &[]))[13], sequence_code);
             assert_eq!(rig.raw(regs(0, 5, &[]))[13], sequence_code);
@@ -1059,7 +1077,7 @@ flash 0 0 0 300
         for (version, codes) in unknown {
             for code in codes {
                 let mut rig = Rig::open(version, Kind::Read, 0, 1);
-                rig.s.suspended = true;
+                assert!(suspend(&mut rig.s));
                 refuses(&mut rig, code, &[1, 1, 1], PARAM_ERROR);
             }
         }
@@ -1221,7 +1239,7 @@ flash 0 0 0 300
         }
         let mut rig = start.clone();
         rig.s.version = 3;
-        rig.s.suspended = true;
+        assert!(suspend(&mut rig.s));
         assert_eq!(rig.step(0), (SYSTEM_ERROR, false));
         assert_eq!(step(&start.s, &mut [], &[], 0), (SYSTEM_ERROR, false));
         let mut flash = start.flash.clone();
@@ -1340,13 +1358,13 @@ flash 0 0 0 300
             let mut rig = Rig::new(version);
             rig.s.size = 1;
             rig.s.previous = Some(1);
-            rig.s.events = 0x5A;
+            rig.s.events = 0x9A;
             let before = rig.clone();
             let mut sent = [0xEE; 16];
             sent[1] = 1;
             let mut expected = [0; 16];
             (expected[0], expected[1]) = (0xEE, 1);
-            (expected[13], expected[14], expected[15]) = (4, 0xEE, 0x5A);
+            (expected[13], expected[14], expected[15]) = (4, 0xEE, 0x9A);
             assert_eq!(rig.raw(sent), expected);
             assert!(rig == before);
         }
@@ -1355,12 +1373,12 @@ flash 0 0 0 300
     #[test]
     fn bytes_14_and_15() {
         let mut rig = Rig::new(2);
-        let mut sent = regs(ACK, 1, &[0x80]);
+        let mut sent = regs(ACK, 1, &[0x01]);
         sent[13] = 0x77;
         sent[14] = 0xA1;
         sent[15] = 0xB2;
         let after = rig.raw(sent);
-        assert_eq!(&after[13..], &[1, 0xA1, 0x01]);
+        assert_eq!(&after[13..], &[1, 0xA1, 0x80]);
     }
 
     #[test]
@@ -1561,19 +1579,6 @@ flash 0 0 0 300
     }
 
     #[test]
-    fn ack_clears_any_bit_and_leaves_the_suspension() {
-        let mut rig = Rig::new(2);
-        assert!(suspend(&mut rig.s));
-        assert_eq!(rig.send(ACK, &[0xC0])[15], 0x01);
-        assert!(rig.s.suspended);
-        assert!(!suspend(&mut rig.s));
-        assert_eq!(rig.s.events, 0x01);
-        assert_eq!(rig.code(FLUSH, &[]), BUSY);
-        assert!(resume(&mut rig.s));
-        assert_eq!(rig.s.events, 0x01);
-    }
-
-    #[test]
     fn suspend_and_resume_go_by_the_suspension() {
         let mut s = Session { events: 0x40, ..Session::fresh() };
         let before = s.clone();
@@ -1662,6 +1667,223 @@ flash 0 0 0 300
         assert!(!with(&|s| { s.kind = Kind::Closed; s.size = 0 }));
         assert!(with(&|s| { s.kind = Kind::Closed; s.size = 0; s.first = 0 }));
         assert!(!with(&|s| { s.kind = Kind::Closed; s.size = 0; s.first = 0; s.marks[0] = 1 }));
+        assert!(!with(&|s| s.events |= 0x40));
+        assert!(!with(&|s| s.suspended = true));
+        assert!(with(&|s| { s.events |= 0x40; s.suspended = true }));
+        assert!(with(&|s| s.events = 0));
+        assert!(with(&|s| s.events = 0xBF));
+    }
+
+    // --------------------------------------------------------- 02, ticket 1
+
+    /// The event byte after an ACK, bit by bit.
+    fn after_ack(events: u8, mask: u8) -> u8 {
+        let stays = |bit: &u8| {
+            let named = mask >> bit & 1 == 1;
+            let an_event = *bit == 0 || *bit == 1;
+            events >> bit & 1 == 1 && !(named && an_event)
+        };
+        (0..8).filter(stays).map(|bit| 1 << bit).sum()
+    }
+
+    /// A write window with marks, that event byte and suspension.
+    fn with_events(version: u8, events: u8, suspended: bool) -> Rig {
+        let mut rig = Rig::open(version, Kind::Write, 1, 2);
+        rig.window = pattern(2 * BLOCK, 55);
+        rig.s.marks[0] = DIRTY;
+        rig.s.marks[1] = ERASED;
+        rig.s.events = events;
+        rig.s.suspended = suspended;
+        rig
+    }
+
+    /// Bit 0x40 without suspension, and suspension without bit 0x40.
+    const DISAGREEING: [(u8, bool); 6] =
+        [(0xC1, false), (0x40, false), (0xFF, false), (0x81, true), (0x00, true), (0xBF, true)];
+
+    #[test]
+    fn ticket_1_case() {
+        for version in 0..=2 {
+            let mut rig = Rig::new(version);
+            rig.s.events = 0x83;
+            let after = rig.send(ACK, &[0xFF]);
+            assert_eq!(after, [9, 1, 0, 0, 0, 0, 0, 0, 0, 0, 0, 0, 0, 1, 0, 0x80]);
+            let expected =
+                Session { version, previous: Some(1), events: 0x80, ..Session::fresh() };
+            assert_eq!(rig.s, expected);
+        }
+    }
+
+    #[test]
+    fn ack_every_event_byte_and_argument() {
+        for version in 0..=2 {
+            let mut rig = with_events(version, 0, false);
+            let before = rig.clone();
+            for events in 0..=255u8 {
+                for mask in 0..=255 {
+                    rig.s.events = events;
+                    rig.s.suspended = events / 0x40 % 2 == 1;
+                    let mut expected = rig.s.clone();
+                    expected.previous = Some(rig.next);
+                    expected.events = after_ack(events, mask);
+                    let mut answer = regs(ACK, rig.next, &[]);
+                    (answer[13], answer[15]) = (SUCCESS, expected.events);
+                    assert_eq!(rig.send(ACK, &[mask, 0xFF, 0xFF]), answer);
+                    assert_eq!((&rig.s, rig.actions), (&expected, 0));
+                }
+            }
+            assert!(rig.flash == before.flash && rig.window == before.window);
+        }
+    }
+
+    #[test]
+    fn ack_leaves_the_suspension_and_its_bit() {
+        for (version, busy) in [(2, 6), (1, 5), (0, 5)] {
+            let mut rig = Rig::new(version);
+            assert!(suspend(&mut rig.s));
+            assert_eq!(rig.send(ACK, &[0xC0])[15], 0xC1);
+            assert_eq!(rig.send(ACK, &[0xFF])[15], 0xC0);
+            assert!(rig.s.suspended);
+            assert!(!suspend(&mut rig.s));
+            refuses(&mut rig, RESET, &[], busy);
+            assert!(resume(&mut rig.s));
+            assert_eq!(rig.send(ACK, &[0xFF])[15], 0x80);
+            assert_eq!(rig.code(RESET, &[]), SUCCESS);
+        }
+    }
+
+    #[test]
+    fn flash_lost_tells_the_suspension_in_a_sound_session() {
+        for version in 0..=2 {
+            for kind in [Kind::Closed, Kind::Read, Kind::Write] {
+                let size = if kind == Kind::Closed { 0 } else { 2 };
+                for events in 0..=255 {
+                    let lost = events / 0x40 % 2 == 1;
+                    for suspended in [false, true] {
+                        let s = Session {
+                            version,
+                            events,
+                            suspended,
+                            kind,
+                            size,
+                            ..Session::fresh()
+                        };
+                        let good = lost == suspended;
+                        assert_eq!(sound(&s, 4 * BLOCK, 2 * BLOCK), good);
+                        assert_eq!(sound_with_lpc(&s, 4 * BLOCK, 2 * BLOCK, 16), good);
+                    }
+                }
+            }
+        }
+    }
+
+    #[test]
+    fn disagreement_is_system_error_for_every_command() {
+        for version in 0..=2 {
+            for (events, suspended) in DISAGREEING {
+                let mut rig = with_events(version, events, suspended);
+                rig.s.previous = Some(4);
+                let before = rig.clone();
+                for code in 0..=255 {
+                    for sequence in [4, 5] {
+                        let mut sent = [0xAB; 16];
+                        (sent[0], sent[1]) = (code, sequence);
+                        let mut expected = regs(code, sequence, &[]);
+                        (expected[13], expected[14], expected[15]) = (4, 0xAB, events);
+                        assert_eq!(rig.raw(sent), expected);
+                        assert!(rig == before, "SYSTEM_ERROR changed something");
+                    }
+                }
+            }
+        }
+    }
+
+    #[test]
+    fn order_disagreement_before_everything_else() {
+        for (version, repeated, busy) in [(2, 8, 6), (1, 2, 5), (0, 2, 5)] {
+            for code in [RESET, CREATE_WRITE, MARK_DIRTY, FLUSH, ACK, ERASE, 0, 99] {
+                let mut rig = with_events(version, 0x81, true);
+                rig.s.previous = Some(7);
+                assert_eq!(rig.raw(regs(code, 7, &[0xFF; 11]))[13], SYSTEM_ERROR);
+                assert_eq!(rig.s.previous, Some(7));
+                rig.s.events = 0xC1;
+                assert_eq!(rig.raw(regs(code, 7, &[0xFF; 11]))[13], repeated);
+            }
+            let mut rig = with_events(version, 0x81, true);
+            assert_eq!(rig.raw(regs(99, 7, &[]))[13], SYSTEM_ERROR);
+            assert_eq!(rig.raw(regs(RESET, 7, &[]))[13], SYSTEM_ERROR);
+            assert_eq!(rig.raw(regs(GET_INFO, 7, &[0]))[13], SYSTEM_ERROR);
+            rig.s.events = 0xC1;
+            refuses(&mut rig, 99, &[], PARAM_ERROR);
+            refuses(&mut rig, RESET, &[], busy);
+            refuses(&mut rig, GET_INFO, &[0], PARAM_ERROR);
+        }
+    }
+
+    #[test]
+    fn disagreement_is_4_for_every_step() {
+        for version in 0..=2 {
+            for (events, suspended) in DISAGREEING {
+                let mut rig = with_events(version, events, suspended);
+                let before = rig.clone();
+                for done in [0, 1, 16, 17, 18, 19, u64::MAX] {
+                    assert_eq!(rig.step(done), (SYSTEM_ERROR, false));
+                    assert!(rig == before);
+                }
+                rig.s.events ^= 0x40;
+                let (code, did) = if suspended { (BUSY, false) } else { (SUCCESS, true) };
+                assert_eq!(rig.step(0), (code, did));
+                assert_eq!(rig.flash != before.flash, did);
+                assert_eq!(rig.step(18), (code, false));
+            }
+        }
+    }
+
+    /// They go by the suspension, so a yes always makes the bit agree with it.
+    #[test]
+    fn suspend_and_resume_on_any_event_byte() {
+        for version in [0, 1, 2, 77] {
+            for events in 0..=255 {
+                for suspended in [false, true] {
+                    let start = marked_session(version, events, suspended);
+                    let mut s = start.clone();
+                    assert_eq!(suspend(&mut s), !suspended);
+                    let lost = if suspended { events } else { events | 0x40 };
+                    assert_eq!(s, Session { events: lost, suspended: true, ..start.clone() });
+                    let mut s = start.clone();
+                    assert_eq!(resume(&mut s), suspended);
+                    let back = if suspended { events & 0xBF } else { events };
+                    assert_eq!(s, Session { events: back, suspended: false, ..start.clone() });
+                    let mut s = start.clone();
+                    assert_eq!(resume_changed(&mut s), suspended);
+                    let mut expected = start.clone();
+                    if suspended {
+                        let events = events & 0xBF | 0x02;
+                        expected = Session { version, events, ..Session::fresh() };
+                    }
+                    assert_eq!(s, expected);
+                }
+            }
+        }
+    }
+
+    fn marked_session(version: u8, events: u8, suspended: bool) -> Session {
+        let marks = [DIRTY; 64];
+        let (kind, first, size) = (Kind::Write, 1, 64);
+        Session { version, events, suspended, kind, first, size, marks, ..Session::fresh() }
+    }
+
+    #[test]
+    fn ticket_1_at_the_bench() {
+        let line = |sequence: &str, events: &str| {
+            format!("09 {sequence} 00 00 00 00 00 00 00 00 00 00 00 01 00 {events}\n")
+        };
+        let changed = bench_hex("02 04 00 03 09 01 00 00 03 09 02 FF 01");
+        assert_eq!(changed, line("01", "83") + &line("02", "80") + EMPTY_FLASH);
+        let suspended = bench_hex("02 00 03 09 01 FF 01 03 00 03 09 02 FF 01");
+        assert_eq!(suspended, line("01", "C0") + &line("02", "80") + EMPTY_FLASH);
+        let named = bench_hex("02 04 00 03 09 01 02 00 03 09 02 01");
+        assert_eq!(named, line("01", "81") + &line("02", "80") + EMPTY_FLASH);
     }
 
     // ---------------------------------------------------------------- bench
@@ -1807,6 +2029,86 @@ flash 0 0 0 300
         for code in [1, 2, 5, 6, 7, 8] {
             assert!(codes[code] > 0, "code {code} never came up");
         }
+    }
+
+    /// What ticket 1 says of the event byte along a list from a fresh session.
+    struct Told {
+        suspended: bool,
+        events: u8,
+    }
+
+    /// From a fresh session every list keeps it sound: 0x40 tells the
+    /// suspension, 0x80 stays set, and no call answers SYSTEM_ERROR.
+    #[test]
+    fn random_walks_of_ticket_1() {
+        let mut random = Random(83);
+        let mut seen = [[0u32; 2]; 7];
+        for _ in 0..60 {
+            let mut rig = Rig::sized(0, 4, 3);
+            assert_eq!(rig.s, Session::fresh());
+            let mut told = Told { suspended: false, events: 0x01 };
+            for _ in 0..200 {
+                let was = usize::from(told.suspended);
+                seen[told_one(&mut rig, &mut told, &mut random)][was] += 1;
+                let lost = if told.suspended { 0x40 } else { 0 };
+                assert_eq!(rig.s.suspended, told.suspended);
+                assert_eq!(rig.s.events, 0x80 | lost | told.events);
+                assert!(sound_with_lpc(&rig.s, rig.flash.len(), rig.window.len(), rig.b));
+            }
+        }
+        assert!(seen.iter().flatten().all(|&times| times > 20), "{seen:?}");
+    }
+
+    /// Does one call, answers its kind: 0 to 2 suspend and the resumes, 3 a
+    /// step, 4 a host write, 5 a command, 6 an ACK that succeeded.
+    fn told_one(rig: &mut Rig, told: &mut Told, random: &mut Random) -> usize {
+        let was = told.suspended;
+        let kind = random.below(16).min(5) as usize;
+        match kind {
+            0 => {
+                assert_eq!(suspend(&mut rig.s), !was);
+                told.suspended = true;
+            }
+            1 => {
+                assert_eq!(resume(&mut rig.s), was);
+                told.suspended = false;
+            }
+            2 => {
+                assert_eq!(resume_changed(&mut rig.s), was);
+                told.suspended = false;
+                told.events |= if was { 0x02 } else { 0 };
+            }
+            3 => {
+                let before = rig.s.clone();
+                let total = u64::from(flush_actions(&rig.s));
+                let done = random.below(total + 2);
+                let expected = if was { (BUSY, false) } else { (SUCCESS, done < total) };
+                assert_eq!(rig.step(done), expected);
+                assert_eq!(rig.s, before);
+            }
+            4 => {
+                let at = random.below(rig.window.len() as u64) as usize;
+                rig.window[at] = random.below(256) as u8;
+            }
+            _ => return told_command(rig, told, random),
+        }
+        kind
+    }
+
+    fn told_command(rig: &mut Rig, told: &mut Told, random: &mut Random) -> usize {
+        let mut sent = random_registers(random);
+        if sent[0] == ACK || random.below(8) == 0 {
+            let any = random.below(256) as u8;
+            (sent[0], sent[2]) = (ACK, if any < 64 { 0xFF } else { any });
+        }
+        let after = rig.raw(sent);
+        assert_ne!(after[13], SYSTEM_ERROR);
+        assert_eq!(after[15], rig.s.events);
+        if (sent[0], after[13]) != (ACK, SUCCESS) {
+            return 5;
+        }
+        told.events = after_ack(told.events, sent[2]);
+        6
     }
 
     fn walk_one(rig: &mut Rig, random: &mut Random) -> u8 {

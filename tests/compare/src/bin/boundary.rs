@@ -59,6 +59,7 @@ fn every_call(pair: &Pair) -> Result<(), String> {
     // the previous number again
     pair.clone().command(registers(8, 9, &[]))?;
     pair.clone().command(registers(2, 9, &[1]))?;
+    pair.clone().command(registers(9, 8, &[0xff]))?;
     for done in [0, 1, 17] {
         pair.clone().step(done)?;
     }
@@ -77,12 +78,12 @@ fn with_byte(record: Record, at: usize, value: u8) -> Record {
 /// Each byte of the record by itself, with values that mean something else in every other field, in each call.
 fn fields() -> Result<(), String> {
     for (version, window, suspended) in [(2, 2, 0), (2, 2, 1), (1, 2, 0), (2, 1, 0), (1, 0, 1), (0, 0, 0)] {
-        let base = Record { suspended, ..record(version, window) };
+        let base = Record { suspended, events: if suspended == 1 { 0xc1 } else { 0x81 }, ..record(version, window) };
         for at in 0..RECORD {
             let values: &[u8] = match at {
                 NUMBERED | SUSPENDED => &[0, 1],
                 MARKS.. => &[1, 3],
-                _ => &[0, 1, 2, 3, 4, 5, 9, 0x40, 0x7f, 0x80, 0x81, 0xff],
+                _ => &[0, 1, 2, 3, 4, 5, 9, 0x40, 0x43, 0x7f, 0x80, 0x81, 0x83, 0xbf, 0xc0, 0xff],
             };
             for value in values {
                 every_call(&pair(with_byte(base, at, *value))).map_err(|e| format!("byte {at} of the record is {value}: {e}"))?;

@@ -123,6 +123,12 @@ fn session_text(s: &Session) -> String {
     )
 }
 
+/// Suspended as the calls leave it: the event byte tells it.
+fn suspend(m: &mut Machine) {
+    m.session.suspended = true;
+    m.session.events |= 0x40;
+}
+
 /// Every command from 0 to 11 and 255, at each version, with each window, suspended and not: the response code, and `~` where the session,
 /// the flash or the window memory changed in more than the previous number.
 fn refusals(side: Side) {
@@ -141,7 +147,9 @@ fn refusals(side: Side) {
 
 fn refusal(side: Side, (version, kind, suspended): (u8, Kind, bool), code: u8, sequence: u8, argument: u16) -> String {
     let mut m = with_window(side, version, kind);
-    m.session.suspended = suspended;
+    if suspended {
+        suspend(&mut m);
+    }
     if kind == Kind::Write {
         m.session.marks[1] = 1;
     }
@@ -180,7 +188,7 @@ fn edges(side: Side) {
         }
         cases.push((5, vec![1]));
         cases.extend(ranges(version).into_iter().flat_map(|range| [7, 8, 10].map(|code| (code, range.clone()))));
-        cases.extend([0, 1, 0x80, 0xff].map(|bits| (9, vec![bits])));
+        cases.extend([0, 1, 2, 4, 0x40, 0x80, 0xfe, 0xff].map(|bits| (9, vec![bits])));
         for (code, arguments) in cases {
             let mut m = with_window(side, version, Kind::Write);
             m.session.marks[1] = 1;
@@ -207,7 +215,7 @@ fn ranges(version: u8) -> Vec<Vec<u16>> {
 
 /// Records and sizes that break the numbers: the code of GET_INFO and of a step, and whether all stayed.
 fn unsound(side: Side) {
-    let changes: [(&str, fn(&mut Machine)); 17] = [
+    let changes: [(&str, fn(&mut Machine)); 21] = [
         ("nothing", |_| {}),
         ("version 3", |m| m.session.version = 3),
         ("version 255", |m| m.session.version = 255),
@@ -224,7 +232,11 @@ fn unsound(side: Side) {
         ("a mark in a read window", |m| { m.session.kind = Kind::Read; m.session.marks[0] = 2 }),
         ("B + C = 65,536", |m| m.lpc = 65534),
         ("B + C = 65,537", |m| m.lpc = 65535),
-        ("suspended", |m| m.session.suspended = true),
+        ("suspended", suspend),
+        ("suspended and 0x40 clear", |m| m.session.suspended = true),
+        ("0x40 set and not suspended", |m| m.session.events |= 0x40),
+        ("suspended and every event bit set", |m| { m.session.suspended = true; m.session.events = 0xff }),
+        ("no event bit set", |m| m.session.events = 0),
     ];
     for (name, change) in changes {
         let mut m = with_window(side, 2, Kind::Write);
@@ -260,6 +272,34 @@ fn suspensions(side: Side) {
                     println!("{call:?} {done}: {}", session_text(&m.session));
                 }
             }
+        }
+    }
+}
+
+/// ACK of each argument on each event byte, suspended and not, at each version: the event byte in the registers and in the session, or the code
+/// of a refusal. Then each command and a step on a record whose bit 0x40 disagrees with its suspension.
+fn events(side: Side) {
+    for version in 0..3 {
+        for (events, suspended) in [(0x83, false), (0x81, false), (0xbf, false), (0x00, false), (0xc3, true), (0xff, true), (0x40, true), (0xc3, false), (0xbf, true)] {
+            let mut line = format!("version {version} events {events:02X} suspended {suspended}:");
+            for named in [0x00u16, 0x01, 0x02, 0x03, 0x04, 0x40, 0x80, 0xc0, 0xfc, 0xfe, 0xff] {
+                let mut m = with_window(side, version, Kind::Closed);
+                (m.session.events, m.session.suspended) = (events, suspended);
+                let (registers, _) = m.send(9, 1, &[named]);
+                let shown = if registers[15] == m.session.events { format!("{:02X}", registers[15]) } else { "differs".into() };
+                line += &format!(" {named:02X}->{shown}{}", if registers[13] == 1 { "".into() } else { format!(" code {}", registers[13]) });
+            }
+            println!("{line}");
+        }
+        for (events, suspended) in [(0xc1, false), (0x81, true)] {
+            let mut m = with_window(side, version, Kind::Write);
+            (m.session.events, m.session.suspended) = (events, suspended);
+            m.session.marks[1] = 1;
+            let before = m.clone();
+            let codes: Vec<String> = (0..12).flat_map(|code| [1, 9].map(|sequence| m.send(code, sequence, &[1, 1]).0[13].to_string())).collect();
+            let step = m.step(0);
+            let kept = m.session == before.session && m.flash == before.flash && m.memory == before.memory;
+            println!("version {version} events {events:02X} suspended {suspended}: commands 0 to 11, new and same number {}, step {step:?}, all kept {kept}", codes.join(" "));
         }
     }
 }
@@ -352,6 +392,7 @@ fn main() {
         Some("edges") => edges(side),
         Some("unsound") => unsound(side),
         Some("suspensions") => suspensions(side),
+        Some("events") => events(side),
         Some("cuts") => cuts(side),
         Some("full") => full(side),
         Some("largest") => largest(side),

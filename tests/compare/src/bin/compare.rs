@@ -6,6 +6,7 @@ use compare::pair::{Access, Pair};
 use compare::{program, session_of, twin, Random, Record};
 
 const BLOCK: usize = 4096;
+const CONTROL_LOST: u8 = 0x40;
 
 fn random_pair(r: &mut Random) -> Pair {
     let full = r.once_in(50);
@@ -33,8 +34,8 @@ fn length(r: &mut Random, blocks: usize) -> usize {
 fn random_record(r: &mut Random, s: u64, c: u64) -> Record {
     let mut record = compare::fresh();
     record.version = r.below(3) as u8;
-    record.events = r.next() as u8;
     record.suspended = u8::from(r.once_in(6));
+    record.events = r.next() as u8 & !CONTROL_LOST | if record.suspended == 1 { CONTROL_LOST } else { 0 };
     record.numbered = u8::from(!r.once_in(4));
     record.previous = if r.once_in(8) { r.next() as u8 } else { r.below(4) as u8 };
     record.window = [0, 1, 2, 2][r.below(4) as usize];
@@ -55,13 +56,14 @@ fn random_record(r: &mut Random, s: u64, c: u64) -> Record {
 
 /// A record that no command would leave.
 fn spoil(r: &mut Random, record: &mut Record) {
-    match r.below(7) {
+    match r.below(8) {
         0 => record.version = r.next() as u8,
         1 => record.first = r.next() as u16,
         2 => record.size = r.next() as u16,
         3 => record.marks[r.below(64) as usize] = r.next() as u8,
         4 => record.window = 0,
         5 => record.window = r.next() as u8,
+        6 => record.events ^= CONTROL_LOST,
         _ => record.marks = [1; 64],
     }
 }
