@@ -63,7 +63,10 @@ extern "C" {
 #define HIOMAP_WINDOW_ERROR 7
 #define HIOMAP_SEQ_ERROR 8
 
-/* The bits of the event byte. */
+/*
+ * The bits of the event byte. The first two are events: an ACK clears those of them that it names. The others
+ * are conditions, which no ACK clears: a suspend sets 0x40 and a resume clears it; no call changes another bit.
+ */
 #define HIOMAP_EVENT_PROTOCOL_RESET 0x01
 #define HIOMAP_EVENT_WINDOW_RESET 0x02
 #define HIOMAP_EVENT_FLASH_CONTROL_LOST 0x40
@@ -74,12 +77,15 @@ extern "C" {
 #define HIOMAP_WINDOW_READ 1
 #define HIOMAP_WINDOW_WRITE 2
 
-/* A session, as the board keeps it. Make one with hiomap_fresh. A record with a flag above 1 is not sound. */
+/*
+ * A session, as the board keeps it. Make one with hiomap_fresh. A record with a flag above 1 is not sound, nor is
+ * one in which bit 0x40 of the event byte is set and access not suspended, or the other way round.
+ */
 typedef struct hiomap_record {
     uint8_t version;   /* the agreed version: 0 none, 1, 2 */
     uint8_t numbered;  /* whether there is a previous sequence number: 0 no, 1 yes */
     uint8_t previous;  /* that number; without one the byte has no meaning and is kept */
-    uint8_t events;    /* the event byte */
+    uint8_t events;    /* the event byte, HIOMAP_EVENT_.. */
     uint8_t suspended; /* whether flash access is suspended: 0 no, 1 yes */
     uint8_t window;    /* HIOMAP_WINDOW_.. */
     uint16_t first;    /* the window's first flash block; 0 without a window */

@@ -109,6 +109,7 @@ int main(void) {
     COMMAND(8, 6);                    /* BUSY */
     hiomap_stepped busy = step(0);
     printf("step %u %s\n", busy.code, yes(busy.acted));
+    COMMAND(9, 7, 0xFF);              /* ACK of every bit: the event 0x01 is cleared, the conditions stay */
     change_access("resume", hiomap_resume);
     change_access("resume", hiomap_resume);
 
@@ -120,16 +121,16 @@ int main(void) {
     }
     printf("steps %u then %u %s\n", (unsigned)done, last.code, yes(last.acted));
     print_flash();
-    COMMAND(8, 7);                    /* the marks are still there: FLUSH does it again */
+    COMMAND(8, 8);                    /* the marks are still there: FLUSH does it again */
 
-    COMMAND(9, 8, 1);                 /* ACK, protocol reset */
     change_access("suspend", hiomap_suspend);
     change_access("resume changed", hiomap_resume_changed);
     COMMAND(8, 9);                    /* WINDOW_ERROR: the window was dropped */
+    COMMAND(9, 10, 2);                /* ACK, window reset */
 
     session.window = 7;               /* a damaged record: SYSTEM_ERROR, and it stays as it is */
     hiomap_record before = session;
-    COMMAND(2, 10, 2);
+    COMMAND(2, 11, 2);
     printf("kept %s\n", yes(memcmp(&before, &session, sizeof session) == 0));
     hiomap_stepped broken = step(0);
     printf("step %u %s\n", broken.code, yes(broken.acted));
@@ -138,9 +139,14 @@ int main(void) {
     change_access("resume changed", hiomap_resume_changed);
     printf("window %u\n", session.window);
     session.suspended = 2;            /* a flag above 1 is not sound either; a resume takes it for yes */
-    COMMAND(2, 11, 2);
+    COMMAND(2, 12, 2);
     change_access("resume", hiomap_resume);
     printf("suspended %u\n", session.suspended);
+    session.events |= HIOMAP_EVENT_FLASH_CONTROL_LOST; /* nor is 0x40 without a suspension; no command mends it, */
+    COMMAND(2, 13, 2);
+    change_access("resume", hiomap_resume);
+    change_access("suspend", hiomap_suspend); /* a suspend does, or a fresh record */
+    change_access("resume", hiomap_resume);
 
     host_reset();                     /* the host boots again; this one counts from 1 and begins with ACK */
     COMMAND(9, 1, 1);

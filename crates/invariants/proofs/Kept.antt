@@ -3,7 +3,7 @@ use mathlib.Core.Path.{_≡_, refl, sym, ap, _∙_}
 use mathlib.Core.Bool.{Bool, true, false, cond, not, _&&_, false≢true}
 use mathlib.Core.List.{List}
 use mathlib.Core.Logic.{⊎-elim}
-use Prim.Native.Nat.{ℕ, _+_, _-_, _≤_, _<_, min}
+use Prim.Native.Nat.{ℕ, _+_, _≤_, _<_, min}
 use native.Mathlib.Omega.{arith}
 use lib.Dec.{leb, eqb}
 use lib.ListN.{length}
@@ -14,7 +14,7 @@ use Rattle.session.specs.declared.Session.{Session}
 use Rattle.session.specs.declared.Window.{Window}
 use Rattle.session.specs.declared.Window.the-variants.{Closed, Read, Write}
 use Rattle.session.specs.Machine.{Setup, lent}
-use Rattle.session.specs.Record.{clean, withVersion, withMarks, dropWindow, fresh}
+use Rattle.session.specs.Record.{clean, withVersion, withMarks, dropWindow}
 use Rattle.soundness.specs.Soundness.{accessSound, activeSound, windowSound, markable, marksSound, sessionSound, sound, soundAt, soundIn}
 use Rattle.soundness.proofs.Access.{acknowledged-access, suspended-sound, resumed-sound, changed-sound}
 use Rattle.soundness.proofs.Facts.{sound-with, refitted-at, measured}

@@ -9,7 +9,6 @@ use native.Mathlib.Omega.{arith}
 use lib.ListN.{length, take, drop, length-append, length-take, length-drop}
 use lib.Seq.{take-all}
 use Rattle.units.proofs.Cases.{decided, chosen}
-use Rattle.units.specs.Units.{toBytes, roundUp}
 use Rattle.buffers.specs.Ranges.{replace}
 use Rattle.buffers.proofs.Replace.{replace-length}
 use Rattle.session.specs.declared.Session.{Session}
@@ -23,9 +22,7 @@ use Rattle.soundness.specs.Soundness.{sound, soundAt, soundIn}
 use Rattle.soundness.proofs.Access.{told}
 use Rattle.soundness.proofs.Facts.{sizes, fitting, part-within, measured}
 use Rattle.soundness.proofs.SoundMarks.{marks-within}
-use Rattle.flush.specs.Actions.{Action}
 use Rattle.flush.specs.Window.{windowActions, performIn, performNext, advanced}
-use Rattle.flush.proofs.Bytes.{AllIn}
 use Rattle.flush.proofs.Cuts.{all-flush, all-take, all-drop}
 use Rattle.flush.proofs.Whole.{in-length}
 use Rattle.registers.specs.Registers.{commandOf, argument}

@@ -1,38 +1,33 @@
 -- The second run: what each of its calls leaves.
 use mathlib.Core.Path.{_≡_, refl, sym, ap, _∙_, subst}
-use mathlib.Core.Bool.{Bool, true, false, cond, not}
+use mathlib.Core.Bool.{Bool, true, false, cond}
 use mathlib.Core.List.{List, [], _∷_}
 use mathlib.Core.Logic.{_⊎_, ⊎-elim}
-use Prim.Native.Nat.{ℕ, _+_, _≤_, min}
+use Prim.Native.Nat.{ℕ, _≤_, min}
 use native.Mathlib.Omega.{arith}
-use lib.Dec.{leb, ltb}
+use lib.Dec.{ltb}
 use lib.ListN.{length, getD}
 use borrow.Author.Tests.{leb-true}
-use Rattle.units.specs.Units.{toBytes, roundUp}
+use Rattle.units.specs.Units.{toBytes}
 use Rattle.units.proofs.Cases.{decided, both}
-use Rattle.buffers.specs.Ranges.{range, replace}
-use Rattle.buffers.proofs.Replace.{range-length, replace-length}
 use Rattle.chip.specs.Actions.{erased}
-use Rattle.chip.proofs.Laws.{erased-length}
 use Rattle.session.specs.declared.Session.{Session}
 use Rattle.session.specs.declared.Window.the-variants.{Write}
 use Rattle.session.specs.Machine.{Setup, Machine, lent}
 use Rattle.session.specs.Marks.{dirty, erasedMark}
 use Rattle.session.specs.Record.{clean, fresh, withVersion, withMarks}
-use Rattle.soundness.specs.Soundness.{sizesSound, sound, sessionSound, soundAt, soundIn}
-use Rattle.soundness.proofs.Facts.{part-within, Measured, measured}
+use Rattle.soundness.specs.Soundness.{sizesSound, sound, sessionSound, soundAt}
+use Rattle.soundness.proofs.Facts.{part-within}
 use Rattle.flush.specs.Actions.{Action, flushActions, actionsFrom, blockActions}
 use Rattle.flush.specs.Window.{windowActions, performIn, flushWhole}
 use Rattle.flush.proofs.Whole.{in-none}
 use Rattle.refusals.specs.declared.Reason.{Reason}
 use Rattle.refusals.specs.declared.Reason.the-variants.{Accepted, System, Repeated, Unknown, Suspended, Windowless, Argument}
-use Rattle.registers.specs.Registers.{commandOf, argument, number}
-use Rattle.refusals.specs.declared.Needs.the-variants.{Access, WriteWindow}
-use Rattle.refusals.specs.Refusals.{blocksNamed, flushMarks, reasonFor, codeFor}
-use Rattle.mailbox.specs.Commands.{Outcome, numbered, numberedIn, sizeFor, hint, marked, flushing, created, flushedAll}
-use Rattle.mailbox.specs.Table.{Command, from, getInfo, createWriteWindow, markDirty, flush, erase}
-use Rattle.mailbox.specs.Mediator.{commandAt, commandIn, reasonOf, reasonIn, answerTo, mediate}
-use Rattle.refusals.proofs.Accepting.{Passed, passed, named-within}
+use Rattle.registers.specs.Registers.{commandOf, argument}
+use Rattle.refusals.specs.Refusals.{blocksNamed, flushMarks, codeFor}
+use Rattle.mailbox.specs.Commands.{Outcome, numbered, numberedIn, marked, flushing, created, flushedAll}
+use Rattle.mailbox.specs.Table.{Command, getInfo, createWriteWindow, markDirty, flush, erase}
+use Rattle.mailbox.specs.Mediator.{commandAt, commandIn, reasonIn, answerTo, mediate}
 use Rattle.mailbox.proofs.Mediating.{mediate-as, each-command}
 use Rattle.mailbox.specs.Runs.{Call, send, suspend, resume, resumeChanged, advance, write, written, called, calledAll}
 use Rattle.mailbox.proofs.Lengths.{memory-long}
@@ -88,12 +83,6 @@ module _ (setup : Setup) (s : Session) (registers flash memory : List ℕ) where
   carried k e a =
       mediate-as setup registers (lent s flash memory) Accepted a
       ∙ ap (λ (n : ℕ). commandAt n .leaves setup registers (lent (numbered s registers) flash memory)) e
-
-  -- as its row of the table has it
-  pub accepted-at : (k : ℕ) → commandOf registers ≡ k → code (mediate setup registers (lent s flash memory)) ≡ 1
-      → reasonOf (commandAt k) (soundIn setup (lent s flash memory)) registers (lent s flash memory) ≡ Accepted
-  accepted-at k e h =
-      ap (λ (n : ℕ). reasonOf (commandAt n) (soundIn setup (lent s flash memory)) registers (lent s flash memory)) (sym e) ∙ accepted h
 
 -- ---- a flush without marks leaves the flash
 clean-none : flushActions clean ≡ []
