@@ -6,7 +6,6 @@ use Prim.Native.Nat.{ℕ, zero, suc, _≤_}
 use native.Mathlib.Omega.{arith}
 use borrow.Author.Tests.{leb-true}
 use Rattle.units.proofs.Cases.{both, chosen}
-use lib.Dec.{leb}
 use lib.ListN.{length}
 use Rattle.session.specs.declared.Session.{Session}
 use Rattle.session.specs.declared.Window.{Window}
@@ -23,7 +22,7 @@ use Rattle.mailbox.specs.Mediator.{reasonIn, answerTo, mediate}
 use Rattle.mailbox.proofs.Mediating.{mediate-as}
 use Rattle.board.specs.declared.Record.{Record}
 use Rattle.board.specs.Record.{isYes, yesNo, windowOf, windowNumber, previousOf, isNumbered, numberOr, isRegular, sessionOf, recordOf, afterwards}
-use Rattle.board.specs.Calls.{Left, left, kept, commanded, systemError}
+use Rattle.board.specs.Calls.{Left, left, kept, commanded, systemError, NothingLost}
 
 -- ---- a session of version 255 is refused with SYSTEM_ERROR
 
@@ -58,7 +57,7 @@ yes-back true = refl
 yes-back false = refl
 
 -- the session of a session's record is that session
-pub session-back : (spare : ℕ) (s : Session) → sessionOf (recordOf spare s) ≡ s
+session-back : (spare : ℕ) (s : Session) → sessionOf (recordOf spare s) ≡ s
 session-back spare s = rw (windows-back (s .window), previous-back spare (s .previous), yes-back (s .suspended)) refl
 
 numbers-back : (n : ℕ) → n ≤ 2 → windowNumber (windowOf n) ≡ n
@@ -81,13 +80,16 @@ number-back : (n k : ℕ) → numberOr k (previousOf n k) ≡ k
 number-back n k = chosen (λ p. numberOr k p ≡ k) (isYes n) (Number k) Absent (λ _. refl) (λ _. refl)
 
 -- the record of a record's session is that record, where the record is regular
-pub record-back : (h : Record) → isRegular h ≡ true → recordOf (h .previous) (sessionOf h) ≡ h
+record-back : (h : Record) → isRegular h ≡ true → recordOf (h .previous) (sessionOf h) ≡ h
 record-back h e =
     let p = both _ _ e in
     let q = both _ _ (p .1) in
     rw
     (numbers-back (h .window) (leb-true (h .window) 2 (q .1)), numbered-back (h .numbered) (h .previous) (leb-true (h .numbered) 1 (p .0)), number-back (h .numbered) (h .previous), answer-back (h .suspended) (leb-true (h .suspended) 1 (q .0)))
     refl
+
+pub nothing-lost : NothingLost
+nothing-lost = (session-back, record-back)
 
 -- and so is that of a refused session, with the record's own version and numbers
 own-back : (h : Record) → afterwards false h (withVersion 255 (sessionOf h)) ≡ h

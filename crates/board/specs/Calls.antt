@@ -5,6 +5,7 @@ use Prim.Native.Nat.{ℕ}
 use mathlib.Core.Bool.{true, false, cond}
 use mathlib.Core.List.{List, []}
 use Rattle.session.specs.Machine.{Setup, setUp, lent}
+use Rattle.session.specs.declared.Session.{Session}
 use Rattle.session.specs.declared.suspension.Suspension.{Suspension}
 use Rattle.session.specs.Suspension.{suspended, resumed, resumedChanged}
 use Rattle.flush.specs.Window.{Advanced, advanced}
@@ -74,6 +75,11 @@ steppedRecord h memory done flash =
     cond (isRegular h)
     (advanced (lent (sessionOf h) flash memory) done)
     (record { code = 4; yes = false; flash = flash })
+
+-- from a session to C's record and back nothing is lost, nor the other way where the record is regular. Proved in proofs/Answers.antt
+abbrev pub NothingLost : Type 0
+NothingLost =
+    ((spare : ℕ) (s : Session) → sessionOf (recordOf spare s) ≡ s) × ((h : Record) → isRegular h ≡ true → recordOf (h .previous) (sessionOf h) ≡ h)
 
 -- a regular record stays regular, whatever the call, so that 4 never comes from a number that the calls themselves leave; a step leaves the record
 -- alone. Proved in proofs/Regular.antt

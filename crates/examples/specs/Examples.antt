@@ -13,7 +13,8 @@ use Rattle.session.specs.declared.Window.{Window}
 use Rattle.session.specs.declared.Window.the-variants.{Closed, Read, Write}
 use Rattle.session.specs.Machine.{Setup, setUp, Machine, lent, holding}
 use Rattle.session.specs.Record.{fresh, withAccess}
-use Rattle.session.specs.Suspension.{suspended, resumedChanged}
+use Rattle.session.specs.declared.suspension.Suspension.{Suspension}
+use Rattle.session.specs.Suspension.{suspended, resumed, resumedChanged}
 use Rattle.flush.specs.Actions.{Action, program, perform}
 use Rattle.flush.specs.Window.{Advanced, advanced}
 use Rattle.mailbox.specs.Commands.{Outcome}
@@ -21,7 +22,7 @@ use Rattle.mailbox.specs.Mediator.{mediate}
 
 -- ---- what an example is
 
--- what a call is given and leaves, with the answer of the last command or step
+-- what a call is given and leaves, with the answer of the last command, step, suspend or resume
 pub record State : Type 0 where
   pub machine : Machine
   pub code : ℕ
@@ -115,13 +116,19 @@ step done s = stepped (advanced (s .machine) done) s
 abbrev pub changed : Machine → State → State
 changed m s = record { machine = m; code = s .code; arguments = s .arguments; actions = s .actions }
 
--- flash access is suspended
-abbrev pub suspend : Call
-suspend s = changed (holding (suspended (s .machine .session) .session) (s .machine)) s
+-- the state that a suspend or resume leaves; its yes is the code 1, its no 0
+abbrev pub accessed : Suspension → State → State
+accessed a s = record { machine = holding (a .session) (s .machine); code = cond (a .done) 1 0; arguments = []; actions = 0 }
 
--- it is resumed, "with changed flash"
+-- flash access is suspended, resumed, and resumed "with changed flash"
+abbrev pub suspend : Call
+suspend s = accessed (suspended (s .machine .session)) s
+
+abbrev pub resume : Call
+resume s = accessed (resumed (s .machine .session)) s
+
 abbrev pub resumeChanged : Call
-resumeChanged s = changed (holding (resumedChanged (s .machine .session) .session) (s .machine)) s
+resumeChanged s = accessed (resumedChanged (s .machine .session)) s
 
 -- another suspension and event byte are found in the record
 abbrev pub access : Bool → ℕ → Call
@@ -148,7 +155,7 @@ same [] (y ∷ ys) = false
 same (x ∷ xs) [] = false
 same (x ∷ xs) (y ∷ ys) = eqb x y && same xs ys
 
--- the response of a command (register 13), or the code of a step
+-- the response of a command (register 13), the code of a step, or the yes or no of a suspend or resume
 abbrev pub code : ℕ → Check
 code n s = eqb (s .code) n
 
@@ -379,33 +386,40 @@ example13 =
     ∷ command (9 ∷ 20 ∷ 0x00 ∷ []) shows (refused 8 ∷ [])
     ∷ []
 
--- Ticket 1, "event byte 83, ACK FF, leaves 80": of the two events those that are named, at every version; of all other bits none, 0x40 while
--- suspended among them. "Bit 0x40 disagreeing with the suspension is SYSTEM_ERROR, first as before", also where the number repeats, for GET_INFO
--- and for a step; the record stays as it is
+-- Ticket 1, "event byte 83, ACK FF, leaves 80": of the two events those that are named, at every version, and while suspended; of all other bits none.
+-- "Bit 0x40 disagreeing with the suspension is SYSTEM_ERROR, first as before", also where the number repeats, for GET_INFO and for a step; the record stays
+-- as it is, and its previous number too. Suspend and resume go by the suspension, as ever, until both agree
 abbrev pub example14 : Example
 example14 =
-    suspend shows (events 0xc1 ∷ [])
-    ∷ resumeChanged shows (events 0x83 ∷ [])
+    suspend shows (code 1 ∷ events 0xc1 ∷ [])
+    ∷ resumeChanged shows (code 1 ∷ events 0x83 ∷ [])
     ∷ command (9 ∷ 1 ∷ 0xff ∷ []) shows (code 1 ∷ arguments [] ∷ events 0x80 ∷ [])
+    ∷ command (2 ∷ 2 ∷ 1 ∷ []) shows (version 1 ∷ [])
     ∷ access false 0xbf shows []
-    ∷ command (9 ∷ 2 ∷ 0xfd ∷ []) shows (code 1 ∷ events 0xbe ∷ [])
-    ∷ command (2 ∷ 3 ∷ 1 ∷ []) shows (version 1 ∷ [])
-    ∷ command (9 ∷ 4 ∷ 0xfe ∷ []) shows (code 1 ∷ events 0xbc ∷ [])
-    ∷ command (2 ∷ 5 ∷ 2 ∷ []) shows (version 2 ∷ [])
-    ∷ suspend shows (events 0xfc ∷ [])
+    ∷ command (9 ∷ 3 ∷ 0xfd ∷ []) shows (code 1 ∷ events 0xbe ∷ [])
+    ∷ command (2 ∷ 4 ∷ 2 ∷ []) shows (version 2 ∷ [])
+    ∷ command (9 ∷ 5 ∷ 0xfe ∷ []) shows (code 1 ∷ events 0xbc ∷ [])
+    ∷ access true 0xff shows []
     ∷ command (9 ∷ 6 ∷ 0xff ∷ []) shows (code 1 ∷ events 0xfc ∷ [])
     ∷ step 0 shows (code 6 ∷ actions 0 ∷ [])
-    ∷ access true 0xbf shows []
-    ∷ command (9 ∷ 6 ∷ 0xff ∷ []) shows (refused 4 ∷ events 0xbf ∷ [])
-    ∷ command (2 ∷ 7 ∷ 1 ∷ []) shows (refused 4 ∷ events 0xbf ∷ version 2 ∷ [])
+    ∷ resume shows (code 1 ∷ events 0xbc ∷ [])
+    ∷ resume shows (code 0 ∷ events 0xbc ∷ [])
+    ∷ access true 0x81 shows []
+    ∷ command (9 ∷ 6 ∷ 0xff ∷ []) shows (refused 4 ∷ events 0x81 ∷ [])
+    ∷ command (2 ∷ 7 ∷ 1 ∷ []) shows (refused 4 ∷ events 0x81 ∷ version 2 ∷ [])
     ∷ step 0 shows (code 4 ∷ actions 0 ∷ [])
-    ∷ access false 0x40 shows []
-    ∷ command (9 ∷ 6 ∷ 0xff ∷ []) shows (refused 4 ∷ events 0x40 ∷ [])
-    ∷ command (2 ∷ 7 ∷ 1 ∷ []) shows (refused 4 ∷ events 0x40 ∷ version 2 ∷ [])
-    ∷ step 0 shows (code 4 ∷ actions 0 ∷ [])
-    ∷ access false 0x00 shows []
-    ∷ command (9 ∷ 6 ∷ 0xff ∷ []) shows (refused 8 ∷ events 0x00 ∷ [])
+    ∷ suspend shows (code 0 ∷ events 0x81 ∷ [])
+    ∷ resume shows (code 1 ∷ events 0x81 ∷ [])
     ∷ step 0 shows (code 1 ∷ actions 0 ∷ [])
+    ∷ access false 0xc1 shows []
+    ∷ command (9 ∷ 6 ∷ 0xff ∷ []) shows (refused 4 ∷ events 0xc1 ∷ [])
+    ∷ command (2 ∷ 7 ∷ 1 ∷ []) shows (refused 4 ∷ events 0xc1 ∷ version 2 ∷ [])
+    ∷ step 0 shows (code 4 ∷ actions 0 ∷ [])
+    ∷ resume shows (code 0 ∷ events 0xc1 ∷ [])
+    ∷ resumeChanged shows (code 0 ∷ events 0xc1 ∷ [])
+    ∷ suspend shows (code 1 ∷ events 0xc1 ∷ [])
+    ∷ step 0 shows (code 6 ∷ actions 0 ∷ [])
+    ∷ command (9 ∷ 6 ∷ 0xff ∷ []) shows (refused 8 ∷ events 0xc1 ∷ [])
     ∷ []
 
 -- the twelve, and those

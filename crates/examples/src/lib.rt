@@ -1,1 +1,1 @@
-// The worked examples of document 01, proved from the definitions: specs/ has them as data, proofs/ the one theorem.
+// The worked examples of document 01 and those of the tickets of document 02, proved from the definitions by one statement. No code.

@@ -72,6 +72,9 @@ module _ (setup : Setup) (s : Session) (registers flash memory : List ℕ) where
       → reasonFor (soundIn setup (lent s flash memory)) s registers known needs broken ≡ Accepted → soundAt setup (length flash) (length memory) s ≡ true
   accepted-sound known needs broken a = passed (soundIn setup (lent s flash memory)) s registers known needs broken a .sounds
 
+  no-system : Accepted ≡ System → ⊥
+  no-system q = let z : _≡_ {A = ℕ} 0 1 = cc in omega arith
+
   flushes : Served (flush .code) flush
   unfolding commandAt
   flushes c a =
@@ -79,7 +82,7 @@ module _ (setup : Setup) (s : Session) (registers flash memory : List ℕ) where
       let same = numbered-adds (flushMarks s registers) in
       let accepted = ap (λ (n : ℕ). reasonOf (commandAt n) (soundIn setup (lent s flash memory)) registers (lent s flash memory)) c ∙ a in
       subst (λ (u : Session). CarriedOut t flash memory (flushWhole (lent u flash memory) .flash) (flushWhole (lent u flash memory) .actions)) (sym same)
-      (carries t (subst (λ (u : Session). sound (length flash) (length memory) u ≡ true) same (flush-sound setup registers (lent s flash memory) accepted .1 c)))
+      (carries t (subst (λ (u : Session). sound (length flash) (length memory) u ≡ true) same (flush-sound setup registers (lent s flash memory) (λ q. no-system (sym accepted ∙ q)) .1 c accepted)))
 
   served-carries : (n : ℕ) → Served n (commandAt n)
   served-carries =

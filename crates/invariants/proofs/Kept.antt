@@ -13,7 +13,7 @@ use Rattle.units.specs.Units.{roundUp}
 use Rattle.session.specs.declared.Session.{Session}
 use Rattle.session.specs.declared.Window.{Window}
 use Rattle.session.specs.declared.Window.the-variants.{Closed, Read, Write}
-use Rattle.session.specs.Machine.{Setup, lent}
+use Rattle.session.specs.Machine.{Setup, Machine, lent}
 use Rattle.session.specs.Record.{clean, withVersion, withMarks, dropWindow}
 use Rattle.soundness.specs.Soundness.{accessSound, activeSound, windowSound, markable, marksSound, sessionSound, sound, soundAt, soundIn}
 use Rattle.soundness.proofs.Access.{acknowledged-access, suspended-sound, resumed-sound, changed-sound}
@@ -21,14 +21,14 @@ use Rattle.soundness.proofs.Facts.{sound-with, refitted-at, measured}
 use Rattle.soundness.proofs.SoundMarks.{clean-sound}
 use Rattle.session.specs.Suspension.{suspended, resumed, resumedChanged}
 use Rattle.session.specs.Marks.{dirty, erasedMark}
-use Rattle.refusals.specs.declared.Reason.the-variants.{Accepted}
+use Rattle.refusals.specs.declared.Reason.the-variants.{Accepted, System}
 use Rattle.registers.specs.Registers.{commandOf, argument, number}
 use Rattle.refusals.specs.declared.Needs.the-variants.{Access, WriteWindow}
 use Rattle.refusals.specs.Refusals.{blocksNamed, flushMarks, isWrite, reasonFor}
 use Rattle.refusals.proofs.Accepting.{passed, named-within}
 use Rattle.mailbox.specs.Commands.{Outcome, numbered, sizeFor, hint, marked, created, ackAnswer}
 use Rattle.mailbox.specs.Table.{Command, createReadWindow, createWriteWindow, create, from}
-use Rattle.mailbox.specs.Mediator.{commandAt, reasonOf}
+use Rattle.mailbox.specs.Mediator.{commandAt, reasonOf, reasonIn}
 use Rattle.mailbox.proofs.Mediating.{each-command, each-answer}
 use Rattle.invariants.specs.Kept.{FreshSound, CommandKeeps, AccessKeeps, FlushSound}
 use Rattle.mailbox.proofs.Front.{size-fits}
@@ -166,16 +166,22 @@ pub fresh-sound : FreshSound
 unfolding soundAt sound sessionSound
 fresh-sound setup flash memory sizes most = rw (sizes, le-leb _ _ most)
 
+-- a command that is not refused with SYSTEM_ERROR is sent to a sound session
+sounds-unless : (setup : Setup) (registers : List ℕ) (m : Machine) → (reasonIn setup registers m ≡ System → ⊥) → soundIn setup m ≡ true
+unfolding reasonFor
+sounds-unless setup registers m fine =
+    ⊎-elim (λ (e : soundIn setup m ≡ true). e) (λ (e : soundIn setup m ≡ false). absurd (fine (rw e))) (decided (soundIn setup m))
+
 pub flush-sound : FlushSound
 unfolding commandAt
-flush-sound setup registers m a =
+flush-sound setup registers m fine =
     let s = m .session in
     let flash = m .flash in
     let memory = m .memory in
-    let sounds = passed (soundIn setup m) s registers _ _ _ a .sounds in
+    let sounds = sounds-unless setup registers m fine in
     let numbered-sound = measured setup (length flash) (length memory) (numbered s registers) (numbered-keeps setup s registers flash memory sounds) .sound in (
       numbered-sound,
-      λ c.
+      λ c a.
           let p = passed (soundIn setup m) s registers (from 1 (s .version)) WriteWindow (flushMarks s registers && not (blocksNamed s registers .inside)) (ap (λ (n : ℕ). reasonOf (commandAt n) (soundIn setup m) registers m) (sym c) ∙ a) in
           chosen (λ (t : Session). sound (length flash) (length memory) t ≡ true) (flushMarks s registers) (marked dirty (numbered s registers) registers) (numbered s registers)
           (λ adds.

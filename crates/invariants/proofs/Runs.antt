@@ -1,11 +1,12 @@
 -- What a run of any calls keeps: the claims stand in specs/Runs.antt.
-use mathlib.Core.Path.{_≡_, refl, ap, _∙_}
+use mathlib.Core.Path.{_≡_, refl, sym, ap, _∙_}
 use mathlib.Core.Bool.{Bool, true, false, not}
 use mathlib.Core.List.{List, [], _∷_}
 use mathlib.Core.Logic.{⊎-elim}
 use mathlib.Core.Option.{Option, none, some}
-use Prim.Native.Nat.{ℕ, _+_, _-_, _≤_, min}
+use Prim.Native.Nat.{ℕ, _+_, _≤_, min}
 use native.Mathlib.Omega.{arith}
+use lib.Bits.{bitAnd}
 use lib.ListN.{length, take, drop, length-append, length-take, length-drop}
 use lib.Seq.{take-all}
 use Rattle.units.proofs.Cases.{decided, chosen}
@@ -14,28 +15,25 @@ use Rattle.buffers.proofs.Replace.{replace-length}
 use Rattle.session.specs.declared.Session.{Session}
 use Rattle.session.specs.Events.{controlLost, windowReset, daemonReady, setBits, clearBits, acknowledgeable}
 use Rattle.session.specs.Machine.{Setup, Machine, lent}
-use Rattle.session.specs.Marks.{dirty}
 use Rattle.session.specs.Record.{withAccess, dropWindow, fresh}
 use Rattle.session.specs.Suspension.{answer}
-use Rattle.session.proofs.Bits.{same-part, same-bit, clear-within, set-within, acknowledged-others}
+use Rattle.session.proofs.Bits.{same-part, same-bit, clear-within, set-within}
 use Rattle.soundness.specs.Soundness.{sound, soundAt, soundIn}
 use Rattle.soundness.proofs.Access.{told}
 use Rattle.soundness.proofs.Facts.{sizes, fitting, part-within, measured}
 use Rattle.soundness.proofs.SoundMarks.{marks-within}
-use Rattle.flush.specs.Window.{windowActions, performIn, performNext, advanced}
+use Rattle.flush.specs.Window.{windowActions, performIn, hasNext, performNext, Advanced, advanced}
 use Rattle.flush.proofs.Cuts.{all-flush, all-take, all-drop}
 use Rattle.flush.proofs.Whole.{in-length}
-use Rattle.registers.specs.Registers.{commandOf, argument}
-use Rattle.refusals.specs.Refusals.{flushMarks}
-use Rattle.mailbox.specs.Commands.{Outcome, numbered, numberedIn, marked}
-use Rattle.mailbox.specs.Table.{Command}
-use Rattle.mailbox.specs.Mediator.{commandAt, reasonIn, mediate}
-use Rattle.mailbox.specs.Runs.{Call, send, suspend, resume, resumeChanged, advance, write, written, called, calledAll}
+use Rattle.refusals.proofs.Accepting.{never-system}
+use Rattle.mailbox.specs.Mediator.{commandIn, reasonOf, reasonIn, mediate}
+use Rattle.mailbox.specs.Runs.{Call, send, suspend, resume, resumeChanged, advance, write, alter, written, called, calledAll}
 use Rattle.mailbox.proofs.Lengths.{memory-long}
-use Rattle.mailbox.proofs.Mediating.{each-command, each-answer}
 use Rattle.invariants.specs.Demand2.{flushedFor, Leaves}
-use Rattle.invariants.specs.Runs.{RunLengths, CommandEvents, changeable, RunEvents, RunKeeps, RunFromFresh}
+use Rattle.invariants.specs.Events.{eventsAfter}
+use Rattle.invariants.specs.Runs.{RunLengths, RunEvents, RunKeeps, RunServed, RunFromFresh}
 use Rattle.invariants.proofs.Demand2.{demand-2}
+use Rattle.invariants.proofs.Events.{command-events}
 use Rattle.invariants.proofs.Kept.{command-keeps, access-keeps, fresh-sound}
 
 -- ---- lengths
@@ -64,7 +62,7 @@ step-long m done =
         in-length s (m .flash) (p .0) (m .memory) (p .1) (take 1 (drop done (windowActions s)))
         (all-take (s .size) 1 (drop done (windowActions s)) (all-drop (s .size) done (windowActions s) all))
 
--- a host write
+-- bytes that others write
 pub write-long : (at : ℕ) (bytes memory : List ℕ) → length (written at bytes memory) ≡ length memory
 write-long at bytes memory =
     length-take (length memory) (replace at bytes memory) ∙ least
@@ -75,7 +73,7 @@ write-long at bytes memory =
     least : min (length memory) (length (replace at bytes memory)) ≡ length memory
     least = omega (arith, longer)
 
--- one that fits replaces a range
+-- those that fit replace a range
 pub write-within : (at : ℕ) (bytes memory : List ℕ) → at + length bytes ≤ length memory → written at bytes memory ≡ replace at bytes memory
 write-within at bytes memory fits =
     let same = replace-length at bytes memory fits in
@@ -92,6 +90,7 @@ call-long setup resume m = (refl, refl)
 call-long setup resumeChanged m = (refl, refl)
 call-long setup (advance done) m = (step-long m done, refl)
 call-long setup (write at bytes) m = (refl, write-long at bytes (m .memory))
+call-long setup (alter at bytes) m = (write-long at bytes (m .flash), refl)
 
 pub run-lengths : RunLengths
 run-lengths setup [] m = (refl, refl)
@@ -102,50 +101,29 @@ run-lengths setup (call ∷ calls) m =
 
 -- ---- event bits
 
--- what is to be shown of an outcome
-abbrev Same : ℕ → Outcome → Type 0
-Same events o = clearBits acknowledgeable (o .machine .session .events) ≡ clearBits acknowledgeable events
-
-module _ (setup : Setup) (registers : List ℕ) (m : Machine) where
-  served-same : (n : ℕ) → Same (m .session .events) (commandAt n .leaves setup registers (numberedIn registers m))
-  served-same =
-      each-command (λ (_ : ℕ) (c : Command). Same (m .session .events) (c .leaves setup registers (numberedIn registers m)))
-      refl refl refl refl refl refl refl
-      (chosen (λ (t : Session). clearBits acknowledgeable (t .events) ≡ clearBits acknowledgeable (m .session .events)) (flushMarks (numbered (m .session) registers) registers) (marked dirty (numbered (m .session) registers) registers) (numbered (m .session) registers) (λ _. refl) (λ _. refl))
-      (acknowledged-others (argument 0 registers) (m .session .events)) refl (λ _. refl)
-
-  broken-same : (code n : ℕ) → Same (m .session .events) (commandAt n .whenBroken code registers (numberedIn registers m))
-  broken-same code =
-      each-command (λ (_ : ℕ) (c : Command). Same (m .session .events) (c .whenBroken code registers (numberedIn registers m)))
-      refl refl refl refl refl refl refl refl refl refl (λ _. refl)
-
-pub command-events : CommandEvents
-command-events setup registers m =
-    each-answer (Same (m .session .events)) setup registers m (λ _. served-same setup registers m (commandOf registers))
-    (λ code. broken-same setup registers m code (commandOf registers)) (λ code. refl) (λ code. refl)
-
 -- yes, or no and the session as it was
-access-same : (acts : Bool) (s t : Session) → clearBits changeable (t .events) ≡ clearBits changeable (s .events)
-    → clearBits changeable (answer acts s t .session .events) ≡ clearBits changeable (s .events)
+access-same : (acts : Bool) (s t : Session) → bitAnd (t .events) 0xbc ≡ bitAnd (s .events) 0xbc
+    → bitAnd (answer acts s t .session .events) 0xbc ≡ bitAnd (s .events) 0xbc
 access-same true s t e = e
 access-same false s t e = refl
 
 call-events : (setup : Setup) (call : Call) (m : Machine)
-    → clearBits changeable (called setup call m .session .events) ≡ clearBits changeable (m .session .events)
+    → bitAnd (called setup call m .session .events) 0xbc ≡ bitAnd (m .session .events) 0xbc
 call-events setup (send registers) m =
-    same-part acknowledgeable (0xff - changeable) (mediate setup registers m .machine .session .events) (m .session .events) refl (command-events setup registers m)
+    same-part acknowledgeable 0xbc (eventsAfter setup registers m) (m .session .events) refl (command-events setup registers m)
 call-events setup suspend m =
     let s = m .session in
-    access-same (not (s .suspended)) s (withAccess true (setBits controlLost (s .events)) s) (set-within changeable controlLost (s .events) refl)
+    access-same (not (s .suspended)) s (withAccess true (setBits controlLost (s .events)) s) (set-within 0x43 controlLost (s .events) refl)
 call-events setup resume m =
     let s = m .session in
-    access-same (s .suspended) s (withAccess false (clearBits controlLost (s .events)) s) (clear-within changeable controlLost (s .events) refl)
+    access-same (s .suspended) s (withAccess false (clearBits controlLost (s .events)) s) (clear-within 0x43 controlLost (s .events) refl)
 call-events setup resumeChanged m =
     let s = m .session in
     access-same (s .suspended) s (dropWindow (withAccess false (setBits windowReset (clearBits controlLost (s .events))) s))
-    (set-within changeable windowReset (clearBits controlLost (s .events)) refl ∙ clear-within changeable controlLost (s .events) refl)
+    (set-within 0x43 windowReset (clearBits controlLost (s .events)) refl ∙ clear-within 0x43 controlLost (s .events) refl)
 call-events setup (advance done) m = refl
 call-events setup (write at bytes) m = refl
+call-events setup (alter at bytes) m = refl
 
 pub run-events : RunEvents
 run-events setup [] m = refl
@@ -162,12 +140,30 @@ call-sound setup resume m e = access-keeps setup (length (m .flash)) (length (m 
 call-sound setup resumeChanged m e = access-keeps setup (length (m .flash)) (length (m .memory)) (m .session) e .2
 call-sound setup (advance done) m e = e
 call-sound setup (write at bytes) m e = e
+call-sound setup (alter at bytes) m e = e
 
 pub run-keeps : RunKeeps
 run-keeps setup [] m e = e
 run-keeps setup (call ∷ calls) m e =
     let long = call-long setup call m in
     run-keeps setup calls (called setup call m) (rw (long .0, long .1) (call-sound setup call m e))
+
+step-served : (m : Machine) → sound (length (m .flash)) (length (m .memory)) (m .session) ≡ true → (done : ℕ) → advanced m done .code ≡ 4 → ⊥
+unfolding advanced
+step-served m e done q =
+    chosen (λ (a : Advanced). a .code ≡ 4 → ⊥) (m .session .suspended)
+    (record { code = 6; yes = false; flash = m .flash })
+    (record { code = 1; yes = hasNext (m .session) done; flash = performNext m done })
+    (λ _ r. omega arith) (λ _ r. omega arith) (rw e at q)
+
+pub run-served : RunServed
+run-served setup calls m e =
+    let n = calledAll setup calls m in
+    let sounds = run-keeps setup calls m e in (
+      λ registers q.
+          never-system (n .session) registers _ _ _ (ap (λ (b : Bool). reasonOf (commandIn registers) b registers n) (sym sounds) ∙ q),
+      step-served n (measured setup (length (n .flash)) (length (n .memory)) (n .session) sounds .sound),
+    )
 
 pub run-from-fresh : RunFromFresh
 run-from-fresh setup flash memory whole most calls =
@@ -177,6 +173,6 @@ run-from-fresh setup flash memory whole most calls =
       e,
       record {
         lost = told (m .session .suspended) (m .session .events) (measured setup (length (m .flash)) (length (m .memory)) (m .session) e .fits .access);
-        ready = same-bit changeable daemonReady (m .session .events) 0x81 refl (run-events setup calls start);
+        ready = same-bit 0x43 daemonReady (m .session .events) 0x81 refl (run-events setup calls start);
       },
     )

@@ -1,5 +1,4 @@
--- A sound session stays sound, so that SYSTEM_ERROR never comes from what the calls themselves leave. The buffers are lent and keep their
--- lengths. Proved in proofs/Kept.antt.
+-- A sound session stays sound, call by call; Runs.antt has it of any list of calls, with the lengths of the buffers. Proved in proofs/Kept.antt.
 use mathlib.Core.Path.{_≡_}
 use mathlib.Core.Bool.{true}
 use mathlib.Core.List.{List}
@@ -11,7 +10,7 @@ use Rattle.session.specs.Machine.{Setup, Machine}
 use Rattle.session.specs.Record.{fresh}
 use Rattle.soundness.specs.Soundness.{sizesSound, sound, soundAt, soundIn}
 use Rattle.session.specs.Suspension.{suspended, resumed, resumedChanged}
-use Rattle.refusals.specs.declared.Reason.the-variants.{Accepted}
+use Rattle.refusals.specs.declared.Reason.the-variants.{Accepted, System}
 use Rattle.registers.specs.Registers.{commandOf}
 use Rattle.mailbox.specs.Commands.{numbered, flushing}
 use Rattle.mailbox.specs.Table.{flush}
@@ -37,10 +36,11 @@ AccessKeeps =
     × (soundAt setup flash memory (resumed s .session) ≡ true)
     × (soundAt setup flash memory (resumedChanged s .session) ≡ true)
 
--- what a command flushes that no check refused is sound, so that the flush always does its actions: the window that a close or a create
--- closes, and that of a FLUSH with its own marks
+-- what a command flushes is sound, so that the flush always does its actions: the window that a close or a create closes, also one that is then refused
+-- for its argument, and that of an accepted FLUSH with its own marks
 abbrev pub FlushSound : Type 0
 FlushSound =
-    (setup : Setup) (registers : List ℕ) (m : Machine) → reasonIn setup registers m ≡ Accepted
+    (setup : Setup) (registers : List ℕ) (m : Machine) → (reasonIn setup registers m ≡ System → ⊥)
     → (sound (length (m .flash)) (length (m .memory)) (numbered (m .session) registers) ≡ true)
-    × (commandOf registers ≡ flush .code → sound (length (m .flash)) (length (m .memory)) (flushing (numbered (m .session) registers) registers) ≡ true)
+    × (commandOf registers ≡ flush .code → reasonIn setup registers m ≡ Accepted
+    → sound (length (m .flash)) (length (m .memory)) (flushing (numbered (m .session) registers) registers) ≡ true)

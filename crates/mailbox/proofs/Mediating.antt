@@ -47,6 +47,13 @@ pub mediate-as : (setup : Setup) (registers : List ℕ) (m : Machine) (r : Reaso
 unfolding mediate obeyed
 mediate-as setup registers m r e = ap (λ (q : Reason). answerTo q (commandIn registers) setup registers m) e
 
+-- where none does, what the row of its code leaves
+pub carried : (setup : Setup) (registers : List ℕ) (m : Machine) (code : ℕ) → commandOf registers ≡ code → reasonIn setup registers m ≡ Accepted
+    → mediate setup registers m ≡ commandAt code .leaves setup registers (numberedIn registers m)
+unfolding answerTo
+carried setup registers m code c a =
+    mediate-as setup registers m Accepted a ∙ ap (λ (n : ℕ). commandAt n .leaves setup registers (numberedIn registers m)) c
+
 -- what holds of a command that no check refused, of a refusal for its argument, and of every other one, holds of what a call leaves
 pub each-answer : (P : Outcome → Type 0) (setup : Setup) (registers : List ℕ) (m : Machine)
     → (reasonIn setup registers m ≡ Accepted → P (commandIn registers .leaves setup registers (numberedIn registers m)))

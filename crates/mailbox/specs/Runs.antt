@@ -1,4 +1,5 @@
--- A run of calls: "every call gets what the one before left" (document 00, demand 3). A call more of the controller's side is a case more here.
+-- A run of calls: "every call gets what the one before left" (document 00, demand 3). A call more of the controller's side, or a thing more that others do to
+-- what is lent, is a case more here.
 use Prim.Native.Nat.{ℕ}
 use mathlib.Core.List.{List, [], _∷_}
 use lib.ListN.{length, take}
@@ -17,10 +18,12 @@ pub data Call : Type 0 where
   advance : ℕ → Call
   -- bytes that the host writes at an offset of window memory
   write : ℕ → List ℕ → Call
+  -- bytes that another master writes at an offset of the flash
+  alter : ℕ → List ℕ → Call
 
--- the host's bytes; those past the end of window memory are not its own, and fall away
+-- such bytes; those past the end of a buffer are not its own, and fall away
 abbrev pub written : ℕ → List ℕ → List ℕ → List ℕ
-written at bytes memory = take (length memory) (replace at bytes memory)
+written at bytes buffer = take (length buffer) (replace at bytes buffer)
 
 -- what a call leaves
 abbrev pub called : Setup → Call → Machine → Machine
@@ -30,6 +33,7 @@ called setup resume m = holding (resumed (m .session) .session) m
 called setup resumeChanged m = holding (resumedChanged (m .session) .session) m
 called setup (advance done) m = lent (m .session) (advanced m done .flash) (m .memory)
 called setup (write at bytes) m = lent (m .session) (m .flash) (written at bytes (m .memory))
+called setup (alter at bytes) m = lent (m .session) (written at bytes (m .flash)) (m .memory)
 
 -- and a list of them
 abbrev pub calledAll : Setup → List Call → Machine → Machine

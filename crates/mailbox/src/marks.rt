@@ -83,7 +83,7 @@ pub(crate) fn flush(known: bool, call: Call, flash: &mut [u8], memory: &[u8]) ->
     flush_named(with_number(call), registers, flash, memory)
 }
 
-// ACK: clears those of the events, and of no conditions, that argument 0 names.
+// ACK: clears those of the two events that argument 0 names, and no other bit.
 pub(crate) fn acknowledge(call: Call) -> Answer
     ensures { λ r. ⌜ ((flash memory : List ℕ) → outcome r flash memory ≡ obeyedBy ack call flash memory) ⌝ }
 {

@@ -28,8 +28,8 @@ use Rattle.refusals.specs.Refusals.{blocksNamed, flushMarks, codeFor}
 use Rattle.mailbox.specs.Commands.{Outcome, numbered, numberedIn, marked, flushing, created, flushedAll}
 use Rattle.mailbox.specs.Table.{Command, getInfo, createWriteWindow, markDirty, flush, erase}
 use Rattle.mailbox.specs.Mediator.{commandAt, commandIn, reasonIn, answerTo, mediate}
-use Rattle.mailbox.proofs.Mediating.{mediate-as, each-command}
-use Rattle.mailbox.specs.Runs.{Call, send, suspend, resume, resumeChanged, advance, write, written, called, calledAll}
+use Rattle.mailbox.proofs.Mediating.{mediate-as, carried, each-command}
+use Rattle.mailbox.specs.Runs.{Call, send, suspend, resume, resumeChanged, advance, write, alter, written, called, calledAll}
 use Rattle.mailbox.proofs.Lengths.{memory-long}
 use Rattle.invariants.proofs.Kept.{fresh-sound}
 use Rattle.invariants.proofs.Runs.{write-long}
@@ -76,14 +76,6 @@ module _ (setup : Setup) (s : Session) (registers flash memory : List ℕ) where
       go Windowless e = absurd (no Windowless e (λ q. let z : _≡_ {A = ℕ} 0 1 = cc in omega arith))
       go Argument e = absurd (no Argument e (λ q. let z : _≡_ {A = ℕ} 0 1 = cc in omega arith))
 
-  -- and leaves what its command says
-  pub carried : (k : ℕ) → commandOf registers ≡ k → reasonIn setup registers (lent s flash memory) ≡ Accepted
-      → mediate setup registers (lent s flash memory) ≡ commandAt k .leaves setup registers (lent (numbered s registers) flash memory)
-  unfolding answerTo
-  carried k e a =
-      mediate-as setup registers (lent s flash memory) Accepted a
-      ∙ ap (λ (n : ℕ). commandAt n .leaves setup registers (lent (numbered s registers) flash memory)) e
-
 -- ---- a flush without marks leaves the flash
 clean-none : flushActions clean ≡ []
 unfolding flushActions actionsFrom blockActions
@@ -118,7 +110,7 @@ pub flush-leaves : (setup : Setup) (s : Session) (registers flash memory : List 
     → sound (length flash) (length memory) s ≡ true → mediate setup registers (lent s flash memory) .machine .flash ≡ performIn s memory (windowActions s) flash
 unfolding commandAt
 flush-leaves setup s registers flash memory c ok none e =
-    ap (λ (o : Outcome). o .machine .flash) (carried setup s registers flash memory (flush .code) c (accepted setup s registers flash memory ok))
+    ap (λ (o : Outcome). o .machine .flash) (carried setup registers (lent s flash memory) (flush .code) c (accepted setup s registers flash memory ok))
     ∙ ap (λ (t : Session). flushedAll registers (lent t flash memory) .machine .flash) (flush-from s registers (flushMarks s registers) none)
     ∙ flush-kept s registers memory flash e
 
@@ -146,14 +138,14 @@ pub info-leaves : (setup : Setup) (registers flash memory : List ℕ) → comman
     ≡ lent (withVersion (min (argument 0 registers) 2) (numbered fresh registers)) flash memory
 unfolding commandAt
 info-leaves setup registers flash memory c ok =
-    ap (λ (o : Outcome). o .machine) (carried setup fresh registers flash memory (getInfo .code) c (accepted setup fresh registers flash memory ok))
+    ap (λ (o : Outcome). o .machine) (carried setup registers (begun flash memory) (getInfo .code) c (accepted setup fresh registers flash memory ok))
 
 -- ---- CREATE_WRITE_WINDOW on a session without marks
 module _ (setup : Setup) (s : Session) (registers flash memory : List ℕ) (c : commandOf registers ≡ createWriteWindow .code)
     (ok : getD (mediate setup registers (lent s flash memory) .registers) 13 0 ≡ 1) (none : s .marks ≡ clean) where
   create-leaves : mediate setup registers (lent s flash memory) ≡ created Write setup registers (lent (numbered s registers) flash memory)
   unfolding commandAt
-  create-leaves = carried setup s registers flash memory (createWriteWindow .code) c (accepted setup s registers flash memory ok)
+  create-leaves = carried setup registers (lent s flash memory) (createWriteWindow .code) c (accepted setup s registers flash memory ok)
 
   create-flash : mediate setup registers (lent s flash memory) .machine .flash ≡ flash
   create-flash = ap (λ (o : Outcome). o .machine .flash) create-leaves ∙ flush-clean (numbered s registers) memory flash none
@@ -206,7 +198,7 @@ module _ (setup : Setup) (first size long : ℕ) (flash : List ℕ) (room : toBy
         → length (erased (toBytes (blocksNamed (m .session) registers .start)) (toBytes (blocksNamed (m .session) registers .count)) (m .memory)) ≡ length (m .memory)
     unfolding commandAt
     erased-long c a =
-        sym (ap (λ (x : Outcome). length (x .machine .memory)) (carried setup (m .session) registers (m .flash) (m .memory) (erase .code) c a))
+        sym (ap (λ (x : Outcome). length (x .machine .memory)) (carried setup registers m (erase .code) c a))
         ∙ memory-long setup registers m
 
     accepted-open : reasonIn setup registers m ≡ Accepted → Open first size long flash (left Accepted)
@@ -259,6 +251,7 @@ module _ (setup : Setup) (first size long : ℕ) (flash : List ℕ) (room : toBy
   call-open resume w m o = absurd w
   call-open resumeChanged w m o = absurd w
   call-open (advance done) w m o = absurd w
+  call-open (alter at bytes) w m o = absurd w
 
   pub calls-open : (calls : List Call) → AllAllowed size calls → (m : Machine) → Open first size long flash m → Open first size long flash (calledAll setup calls m)
   calls-open [] w m o = o

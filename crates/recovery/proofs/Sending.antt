@@ -25,9 +25,9 @@ use Rattle.refusals.proofs.Accepting.{accepts}
 use Rattle.mailbox.specs.Commands.{Outcome, numbered, numberedIn, sizeFor}
 use Rattle.mailbox.specs.Table as table
 use Rattle.mailbox.specs.Mediator.{commandAt, reasonOf, mediate}
+use Rattle.mailbox.proofs.Mediating.{carried}
 use Rattle.recovery.specs.Second.{response, sent, begun}
 use Rattle.recovery.specs.Recipe.{getInfo}
-use Rattle.recovery.proofs.SecondList.{carried}
 
 -- a 16-bit number is that of its two bytes
 pub word : (n : ℕ) → n < 65536 → n % 256 + 256 * (n / 256 % 256 + 256 * 0) ≡ n
@@ -43,7 +43,7 @@ pub info-taken : (setup : Setup) (flash memory : List ℕ) → soundAt setup (le
 unfolding commandAt
 info-taken setup flash memory e =
     ap (λ (o : Outcome). getD (o .registers) 13 0)
-    (carried setup fresh getInfo flash memory (table.getInfo .code) refl (accepts (soundIn setup (begun flash memory)) fresh getInfo true Nothing false
+    (carried setup getInfo (begun flash memory) (table.getInfo .code) refl (accepts (soundIn setup (begun flash memory)) fresh getInfo true Nothing false
     (record { sounds = e; fresh = refl; knows = refl; awake = refl; windowed = refl; argued = refl })))
 
 -- ---- a machine that has agreed version 2 and is not suspended, and the last number that it was sent
@@ -64,7 +64,7 @@ module _ (setup : Setup) (last : ℕ) (m : Machine) (s : Serving setup last m) (
       → commandAt code .broken (m .session) registers (roundUp (length (m .flash))) ≡ false
       → mediate setup registers m ≡ commandAt code .leaves setup registers (numberedIn registers m)
   taken code c k w a =
-      carried setup (m .session) registers (m .flash) (m .memory) code c
+      carried setup registers m code c
       (ap (λ (n : ℕ). reasonOf (commandAt n) (soundIn setup m) registers m) c
       ∙ accepts (soundIn setup m) (m .session) registers (commandAt code .known (m .session .version)) (commandAt code .needs) (commandAt code .broken (m .session) registers (roundUp (length (m .flash))))
       (record {

@@ -15,7 +15,7 @@ use Rattle.registers.specs.Registers.{commandOf}
 use Rattle.mailbox.specs.Commands.{flushing}
 use Rattle.mailbox.specs.Table.{getInfo, createWriteWindow, markDirty, flush, erase}
 use Rattle.mailbox.specs.Mediator.{mediate}
-use Rattle.mailbox.specs.Runs.{Call, send, suspend, resume, resumeChanged, advance, write, calledAll}
+use Rattle.mailbox.specs.Runs.{Call, send, suspend, resume, resumeChanged, advance, write, alter, called, calledAll}
 use Rattle.recovery.specs.Cut.{stepped, step, afterAll, answers, actionsOf, start}
 
 -- a mailbox command: its response register, and what it leaves
@@ -23,7 +23,7 @@ abbrev pub response : Setup → List ℕ → Machine → ℕ
 response setup registers m = getD (mediate setup registers m .registers) 13 0
 
 abbrev pub sent : Setup → List ℕ → Machine → Machine
-sent setup registers m = mediate setup registers m .machine
+sent setup registers m = called setup (send registers) m
 
 -- "any list of MARK_DIRTY and ERASE commands, refused ones included, with host writes in the window", and no other call
 abbrev pub Allowed : ℕ → Call → Type 0
@@ -33,6 +33,7 @@ Allowed size suspend = ⊥
 Allowed size resume = ⊥
 Allowed size resumeChanged = ⊥
 Allowed size (advance done) = ⊥
+Allowed size (alter at bytes) = ⊥
 
 abbrev pub AllAllowed : ℕ → List Call → Type 0
 AllAllowed size [] = Unit

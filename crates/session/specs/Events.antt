@@ -30,8 +30,8 @@ isSet bit events = eqb (bitAnd events bit) bit
 
 -- "0x40 and 0x80 are conditions and not events: ACK clears only 0x01 and 0x02"
 abbrev pub acknowledgeable : ℕ
-acknowledgeable = setBits windowReset protocolReset
+acknowledgeable = bitOr protocolReset windowReset
 
--- of these, those that are named
+-- the event byte after an ACK: those of the two that are named are cleared, and every other bit stays
 abbrev pub acknowledged : ℕ → ℕ → ℕ
 acknowledged named events = clearBits (bitAnd named acknowledgeable) events

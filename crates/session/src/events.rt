@@ -8,14 +8,14 @@ pub const WINDOW_RESET: u8 = 0x02;
 // Flash access is suspended.
 pub const CONTROL_LOST: u8 = 0x40;
 
-// The bits that are events, 0x01 and 0x02. The others are conditions: no acknowledgement ends them.
+// The two events, 0x01 and 0x02: no acknowledgement clears another bit.
 const ACKNOWLEDGEABLE: u8 = 0x03;
 
 // The event byte after an acknowledgement that names these bits.
 pub fn acknowledge_events(events: u8, named: u8) -> u8
     ensures { λ r. ⌜ r ≡ acknowledged named events ⌝ }
 {
-    events & (0xff - (named & ACKNOWLEDGEABLE))
+    events & !(named & ACKNOWLEDGEABLE)
 }
 
 // Whether the event byte tells that flash access is suspended.

@@ -41,7 +41,7 @@ pub fn resume(session: Session) -> Suspension
     }
     Suspension {
         done: true,
-        session: with_access(session, false, session.events & 0xbf),
+        session: with_access(session, false, session.events & !CONTROL_LOST),
     }
 }
 
@@ -58,6 +58,10 @@ pub fn resume_changed(session: Session) -> Suspension
     let dropped = without_window(session);
     Suspension {
         done: true,
-        session: with_access(dropped, false, session.events & 0xbf | WINDOW_RESET),
+        session: with_access(
+            dropped,
+            false,
+            session.events & !CONTROL_LOST | WINDOW_RESET,
+        ),
     }
 }

@@ -1,6 +1,6 @@
-// When the lent sizes and a session are sound.
+// When the lent sizes, B and a session are sound.
 //
-// Every length and every session record gets an answer; what is not sound is SYSTEM_ERROR to a command and 4 to a step.
+// Every length and every session record gets an answer; what is not sound is SYSTEM_ERROR to a command and, B aside, 4 to a step.
 use session::Board;
 use session::Session;
 use session::Window;

@@ -1,0 +1,111 @@
+-- What a command makes of the event byte: the claims stand in specs/Events.antt.
+use mathlib.Core.Path.{_≡_, refl, ap, _∙_}
+use mathlib.Core.Bool.{cond}
+use mathlib.Core.List.{List, [], _∷_, _++_}
+use Prim.Native.Nat.{ℕ, _+_, min}
+use native.Mathlib.Omega.{arith}
+use lib.Bits.{bitAnd}
+use lib.Dec.{ltb}
+use lib.ListN.{length, getD, length-append, length-take, length-replicate}
+use lib.Seq.{getD-append-add}
+use Rattle.units.proofs.Cases.{chosen}
+use Rattle.units.specs.Units.{blockBytes, toBytes, roundUp}
+use Rattle.session.specs.declared.Session.{Session}
+use Rattle.session.specs.Events.{acknowledged}
+use Rattle.session.specs.Machine.{Setup, Machine}
+use Rattle.session.specs.Marks.{dirty}
+use Rattle.session.proofs.Bits.{acknowledged-others}
+use Rattle.refusals.specs.declared.Reason.the-variants.{Accepted}
+use Rattle.refusals.specs.Refusals.{flushMarks}
+use Rattle.registers.specs.Registers.{commandOf, argument, number, bytesOf, padded, reply}
+use Rattle.mailbox.specs.Commands.{Outcome, numbered, numberedIn, marked, infoArguments, sizeFor, hint, createArguments}
+use Rattle.mailbox.specs.Table.{Command}
+use Rattle.mailbox.specs.Mediator.{commandAt, reasonIn}
+use Rattle.mailbox.proofs.Mediating.{carried, each-command, each-answer}
+use Rattle.invariants.specs.Events.{eventsAfter, AckAsSaid, CommandEvents, EventsShown}
+
+-- what is to be shown of an outcome: the event byte stands in register 15
+abbrev Shown : Outcome → Type 0
+Shown o = getD (o .registers) 15 0 ≡ o .machine .session .events
+
+module _ (setup : Setup) (registers : List ℕ) (m : Machine) where
+  abbrev before : ℕ
+  before = m .session .events
+
+  -- a FLUSH, with or without marks of its own, keeps the event byte
+  flushing-same : cond (flushMarks (numbered (m .session) registers) registers) (marked dirty (numbered (m .session) registers) registers) (numbered (m .session) registers) .events ≡ before
+  flushing-same =
+      chosen (λ (t : Session). t .events ≡ before) (flushMarks (numbered (m .session) registers) registers)
+      (marked dirty (numbered (m .session) registers) registers) (numbered (m .session) registers) (λ _. refl) (λ _. refl)
+
+  -- ---- the byte after a command that no check refused, by its row
+  served-same : (n : ℕ) → (n ≡ 9 → ⊥) → commandAt n .leaves setup registers (numberedIn registers m) .machine .session .events ≡ before
+  served-same =
+      each-command (λ (n : ℕ) (c : Command). (n ≡ 9 → ⊥) → c .leaves setup registers (numberedIn registers m) .machine .session .events ≡ before)
+      (λ _. refl) (λ _. refl) (λ _. refl) (λ _. refl) (λ _. refl) (λ _. refl) (λ _. refl) (λ _. flushing-same) (λ other. absurd (other refl)) (λ _. refl) (λ _ _. refl)
+
+  served-others : (n : ℕ) → bitAnd (commandAt n .leaves setup registers (numberedIn registers m) .machine .session .events) 0xfc ≡ bitAnd before 0xfc
+  served-others =
+      each-command (λ (_ : ℕ) (c : Command). bitAnd (c .leaves setup registers (numberedIn registers m) .machine .session .events) 0xfc ≡ bitAnd before 0xfc)
+      refl refl refl refl refl refl refl (ap (λ (n : ℕ). bitAnd n 0xfc) flushing-same) (acknowledged-others (argument 0 registers) before) refl (λ _. refl)
+
+  -- and after a refusal for its argument
+  broken-same : (code n : ℕ) → commandAt n .whenBroken code registers (numberedIn registers m) .machine .session .events ≡ before
+  broken-same code =
+      each-command (λ (_ : ℕ) (c : Command). c .whenBroken code registers (numberedIn registers m) .machine .session .events ≡ before)
+      refl refl refl refl refl refl refl refl refl refl (λ _. refl)
+
+  -- where a command leaves it alone, if no check refuses it, every answer does
+  unless : (P : Type 0) → (reasonIn setup registers m ≡ Accepted → P → commandAt (commandOf registers) .leaves setup registers (numberedIn registers m) .machine .session .events ≡ before)
+      → P → eventsAfter setup registers m ≡ before
+  unless P served p =
+      each-answer (λ (o : Outcome). o .machine .session .events ≡ before) setup registers m (λ a. served a p)
+      (λ code. broken-same code (commandOf registers)) (λ code. refl) (λ code. refl)
+
+  acked : commandOf registers ≡ 9 → reasonIn setup registers m ≡ Accepted → eventsAfter setup registers m ≡ acknowledged (argument 0 registers) before
+  unfolding commandAt
+  acked c a = ap (λ (o : Outcome). o .machine .session .events) (carried setup registers m 9 c a)
+
+  -- ---- what the host sees
+  shown-at : (code : ℕ) (arguments : List ℕ) (events : ℕ) → getD (reply registers code (padded arguments) events) 15 0 ≡ events
+  shown-at code arguments events =
+      ap (λ (n : ℕ). getD (padded arguments ++ (code ∷ getD registers 14 0 ∷ events ∷ [])) n 0) place
+      ∙ getD-append-add (padded arguments) (code ∷ getD registers 14 0 ∷ events ∷ []) 2 0
+    where
+      place : 13 ≡ length (padded arguments) + 2
+      place = simp (length-take, length-append, length-replicate) (omega arith)
+
+  served-shown : (n : ℕ) → Shown (commandAt n .leaves setup registers (numberedIn registers m))
+  served-shown =
+      let S = roundUp (length (m .flash)) in
+      let C = roundUp (length (m .memory)) in
+      let o = number 2 0 registers in
+      let new = shown-at 1 (createArguments (m .session .version) (setup .lpc) (sizeFor S C o (hint (m .session) registers)) o) before in
+      each-command (λ (_ : ℕ) (c : Command). Shown (c .leaves setup registers (numberedIn registers m)))
+      refl
+      (shown-at 1 (infoArguments (min (argument 0 registers) 2) C (setup .timeout)) before)
+      (shown-at 1 (cond (ltb (m .session .version) 2) (bytesOf 4 (toBytes S) ++ bytesOf 4 blockBytes) (bytesOf 2 S ++ bytesOf 2 1)) before)
+      new refl new refl refl refl refl (λ _. refl)
+
+  broken-shown : (code n : ℕ) → Shown (commandAt n .whenBroken code registers (numberedIn registers m))
+  broken-shown code =
+      each-command (λ (_ : ℕ) (c : Command). Shown (c .whenBroken code registers (numberedIn registers m)))
+      refl refl refl refl refl refl refl refl refl refl (λ _. refl)
+
+pub ack-as-said : AckAsSaid
+ack-as-said setup registers m = (
+  acked setup registers m,
+  unless setup registers m (commandOf registers ≡ 9 → ⊥) (λ a other. served-same setup registers m (commandOf registers) other),
+  unless setup registers m (reasonIn setup registers m ≡ Accepted → ⊥) (λ a refused. absurd (refused a)),
+)
+
+pub command-events : CommandEvents
+command-events setup registers m =
+    each-answer (λ (o : Outcome). bitAnd (o .machine .session .events) 0xfc ≡ bitAnd (m .session .events) 0xfc) setup registers m
+    (λ _. served-others setup registers m (commandOf registers))
+    (λ code. ap (λ (n : ℕ). bitAnd n 0xfc) (broken-same setup registers m code (commandOf registers))) (λ code. refl) (λ code. refl)
+
+pub events-shown : EventsShown
+events-shown setup registers m =
+    each-answer Shown setup registers m (λ _. served-shown setup registers m (commandOf registers))
+    (λ code. broken-shown setup registers m code (commandOf registers)) (λ code. refl) (λ code. refl)
