@@ -29,7 +29,7 @@ use Rattle.invariants.proofs.Runs.{run-keeps}
 use Rattle.recovery.specs.Cut.{Event, cut, start, Kept, AtCut}
 use Rattle.recovery.specs.Demand.{Demand3}
 use Rattle.recovery.specs.Second.{Way, bySteps, byFlush, Succeeds, flashAfter, begun, agreeing, opening, SecondRun, StepsSucceed, secondEnd, secondFlash, unstopped, AddsNone, unstoppedFlash}
-use Rattle.recovery.proofs.FirstList.{kept-window, kept-first, kept-size, kept-marks, marks-sound, Running, begins, runs, says, session-after, block-at, finished-at, old-at, other-at, length-at, resumed-kept, resume-said, steps-flash, steps-said}
+use Rattle.recovery.proofs.FirstList.{kept-window, kept-first, kept-size, kept-marks, marks-sound, Running, begins, runs, says, session-after, machine-after, block-at, finished-at, old-at, other-at, length-at, resumed-kept, resume-said, steps-flash, steps-said}
 use Rattle.recovery.proofs.SecondList.{fresh-as, info-leaves, create-opens, Open, calls-open, flush-leaves}
 
 -- ---- either way to flush does all actions of the window
@@ -100,6 +100,7 @@ module _ (setup : Setup) (s : Session) (flash memory : List ℕ) (sounds : sound
     at-cut =
         record {
           answered = says s flash memory e w events (start (lent s flash memory)) (begins s flash memory e w);
+          run = λ setup. machine-after s flash memory e w setup events (start (lent s flash memory));
           blocks = block-at s flash memory e w (cut (lent s flash memory) events) r;
           finished = finished-at s flash memory e w (cut (lent s flash memory) events) r;
           old = old-at s flash memory e w (cut (lent s flash memory) events) r;

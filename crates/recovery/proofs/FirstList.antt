@@ -14,7 +14,7 @@ use Rattle.units.specs.Units.{toBytes}
 use Rattle.session.specs.declared.Session.{Session}
 use Rattle.session.specs.declared.Window.{Window}
 use Rattle.session.specs.declared.Window.the-variants.{Write}
-use Rattle.session.specs.Machine.{lent}
+use Rattle.session.specs.Machine.{Setup, lent}
 use Rattle.session.specs.Marks.{isMarked}
 use Rattle.session.specs.Events.{controlLost, setBits, clearBits}
 use Rattle.session.specs.Record.{withAccess}
@@ -30,7 +30,8 @@ use Rattle.flush.specs.Window.{windowActions, windowPart, partEnd, performIn, A
 use Rattle.flush.proofs.Bytes.{AllIn}
 use Rattle.flush.proofs.Cuts.{all-flush, all-take, all-drop, block-after, passed-finished, ahead-old, cut-clean}
 use Rattle.flush.proofs.Whole.{part-length, in-none, in-length, in-part, in-outside, in-append, in-same}
-use Rattle.recovery.specs.Cut.{Event, step, suspend, resume, State, Said, stepped, told, counted, after, answer, afterAll, answers, expected, accessAfter, actionsOf, start, inMarked, Kept}
+use Rattle.mailbox.specs.Runs.{calledAll}
+use Rattle.recovery.specs.Cut.{Event, step, suspend, resume, State, Said, stepped, told, counted, after, answer, afterAll, answers, expected, accessAfter, actionsOf, start, callsOf, inMarked, Kept}
 
 -- what a session that differs in its suspension and event byte alone has of the other
 module _ (s t : Session) (k : Kept s t) where
@@ -283,6 +284,14 @@ module _ (s : Session) (flash memory : List ℕ) (e : sound (length flash) (leng
   session-after (step ∷ events) st = session-after events (after N step st)
   session-after (suspend ∷ events) st = session-after events (after N suspend st)
   session-after (resume ∷ events) st = session-after events (after N resume st)
+
+  -- ---- and as a run of calls
+  pub machine-after : (setup : Setup) (events : List Event) (st : State)
+      → afterAll N events st .machine ≡ calledAll setup (callsOf N events st) (st .machine)
+  machine-after setup [] st = refl
+  machine-after setup (step ∷ events) st = machine-after setup events (after N step st)
+  machine-after setup (suspend ∷ events) st = machine-after setup events (after N suspend st)
+  machine-after setup (resume ∷ events) st = machine-after setup events (after N resume st)
 
   -- ---- the flash at the cut
   module _ (st : State) (r : Running st) where

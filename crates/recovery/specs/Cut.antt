@@ -7,12 +7,13 @@ use lib.Dec.{leb, ltb}
 use lib.ListN.{length, getD, take}
 use Rattle.units.specs.Units.{toBytes, blockHolding}
 use Rattle.session.specs.declared.Session.{Session}
-use Rattle.session.specs.Machine.{Machine, lent, holding}
+use Rattle.session.specs.Machine.{Setup, Machine, lent, holding}
 use Rattle.session.specs.Marks.{isMarked}
 use Rattle.session.specs.Record.{withAccess}
 use Rattle.session.specs.Suspension.{suspended, resumed}
 use Rattle.flush.specs.Cut.{passed, ahead, progress, blockAt, leaves}
 use Rattle.flush.specs.Window.{windowActions, windowPart, partEnd, advanced}
+use Rattle.mailbox.specs.Runs as runs
 
 -- "any list of flush steps, suspends and resumes without changed flash"
 pub data Event : Type 0 where
@@ -86,6 +87,16 @@ start m = record { machine = m; count = 0 }
 abbrev pub cut : Machine → List Event → State
 cut m events = afterAll (actionsOf (m .session)) events (start m)
 
+-- the list as a run of calls: "A step is given j"
+abbrev pub callFor : Event → ℕ → runs.Call
+callFor step j = runs.advance j
+callFor suspend j = runs.suspend
+callFor resume j = runs.resume
+
+abbrev pub callsOf : ℕ → List Event → State → List runs.Call
+callsOf N [] s = []
+callsOf N (e ∷ events) s = callFor e (s .count) ∷ callsOf N events (after N e s)
+
 -- the byte of the flash at x lies in a marked block
 abbrev pub inMarked : Session → ℕ → Bool
 inMarked s x =
@@ -100,6 +111,8 @@ Kept s t = t ≡ withAccess (t .suspended) (t .events) s
 pub record AtCut (m : Machine) (events : List Event) : Type 0 where
   -- "For every such list the answers are those of document 01"
   pub answered : answers (actionsOf (m .session)) events (start m) ≡ expected (actionsOf (m .session)) events (m .session .suspended) 0
+  -- "every call gets what the one before left": what is left is what a run of these calls leaves
+  pub run : (setup : Setup) → cut m events .machine ≡ runs.calledAll setup (callsOf (actionsOf (m .session)) events (start m)) m
   -- "It holds what its actions among the first j make of its old bytes"
   pub blocks : (b : ℕ) → b < m .session .size
       → blockAt b (windowPart (m .session) (cut m events .machine .flash))
