@@ -52,12 +52,12 @@ previous-back : (spare : ℕ) (p : Previous) → previousOf (yesNo (isNumbered p
 previous-back spare Absent = refl
 previous-back spare (Number n) = refl
 
-yes-back : (b : Bool) → isYes (yesNo b) ≡ b
+pub yes-back : (b : Bool) → isYes (yesNo b) ≡ b
 yes-back true = refl
 yes-back false = refl
 
 -- the session of a session's record is that session
-session-back : (spare : ℕ) (s : Session) → sessionOf (recordOf spare s) ≡ s
+pub session-back : (spare : ℕ) (s : Session) → sessionOf (recordOf spare s) ≡ s
 session-back spare s = rw (windows-back (s .window), previous-back spare (s .previous), yes-back (s .suspended)) refl
 
 numbers-back : (n : ℕ) → n ≤ 2 → windowNumber (windowOf n) ≡ n
@@ -76,7 +76,7 @@ numbered-back zero k e = refl
 numbered-back (suc zero) k e = refl
 numbered-back (suc (suc n)) k e = absurd (omega arith)
 
-number-back : (n k : ℕ) → numberOr k (previousOf n k) ≡ k
+pub number-back : (n k : ℕ) → numberOr k (previousOf n k) ≡ k
 number-back n k = chosen (λ p. numberOr k p ≡ k) (isYes n) (Number k) Absent (λ _. refl) (λ _. refl)
 
 -- the record of a record's session is that record, where the record is regular

@@ -81,6 +81,17 @@ abbrev pub NothingLost : Type 0
 NothingLost =
     ((spare : ℕ) (s : Session) → sessionOf (recordOf spare s) ≡ s) × ((h : Record) → isRegular h ≡ true → recordOf (h .previous) (sessionOf h) ≡ h)
 
+-- what a call leaves of a regular record stands for what it leaves of the session that the record stands for; so what is said of any run of calls on
+-- sessions (crate invariants) holds of C's records. Proved in proofs/Follows.antt
+abbrev pub Follows : Type 0
+Follows =
+    (h : Record) → isRegular h ≡ true
+    → ((setup : Setup) (registers flash memory : List ℕ)
+    → sessionOf (commanded setup h registers flash memory .held) ≡ mediate setup registers (lent (sessionOf h) flash memory) .machine .session)
+    × (sessionOf (suspendedRecord h .held) ≡ suspended (sessionOf h) .session)
+    × (sessionOf (resumedRecord h .held) ≡ resumed (sessionOf h) .session)
+    × (sessionOf (changedRecord h .held) ≡ resumedChanged (sessionOf h) .session)
+
 -- a regular record stays regular, whatever the call, so that 4 never comes from a number that the calls themselves leave; a step leaves the record
 -- alone. Proved in proofs/Regular.antt
 abbrev pub StaysRegular : Type 0

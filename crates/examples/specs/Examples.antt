@@ -388,7 +388,7 @@ example13 =
 
 -- Ticket 1, "event byte 83, ACK FF, leaves 80": of the two events those that are named, at every version, and while suspended; of all other bits none.
 -- "Bit 0x40 disagreeing with the suspension is SYSTEM_ERROR, first as before", also where the number repeats, for GET_INFO and for a step; the record stays
--- as it is, and its previous number too. Suspend and resume go by the suspension, as ever, until both agree
+-- as it is, and its previous number too. Suspend and resume go by the suspension, as before
 abbrev pub example14 : Example
 example14 =
     suspend shows (code 1 ∷ events 0xc1 ∷ [])

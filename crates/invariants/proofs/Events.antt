@@ -1,6 +1,6 @@
 -- What a command makes of the event byte: the claims stand in specs/Events.antt.
 use mathlib.Core.Path.{_≡_, refl, ap, _∙_}
-use mathlib.Core.Bool.{cond}
+use mathlib.Core.Bool.{true, false, cond}
 use mathlib.Core.List.{List, [], _∷_, _++_}
 use Prim.Native.Nat.{ℕ, _+_, min}
 use native.Mathlib.Omega.{arith}
@@ -8,21 +8,28 @@ use lib.Bits.{bitAnd}
 use lib.Dec.{ltb}
 use lib.ListN.{length, getD, length-append, length-take, length-replicate}
 use lib.Seq.{getD-append-add}
-use Rattle.units.proofs.Cases.{chosen}
+use mathlib.Core.Logic.{⊎-elim}
+use Rattle.units.proofs.Cases.{decided, chosen}
 use Rattle.units.specs.Units.{blockBytes, toBytes, roundUp}
 use Rattle.session.specs.declared.Session.{Session}
-use Rattle.session.specs.Events.{acknowledged}
+use Rattle.session.specs.Events.{isSet, acknowledged}
 use Rattle.session.specs.Machine.{Setup, Machine}
 use Rattle.session.specs.Marks.{dirty}
 use Rattle.session.proofs.Bits.{acknowledged-others}
+use Rattle.soundness.specs.Soundness.{sound, soundAt, soundIn}
+use Rattle.soundness.proofs.Access.{told}
+use Rattle.soundness.proofs.Facts.{sizes, fitting}
+use Rattle.flush.specs.Window.{advanced}
 use Rattle.refusals.specs.declared.Reason.the-variants.{Accepted}
-use Rattle.refusals.specs.Refusals.{flushMarks}
-use Rattle.registers.specs.Registers.{commandOf, argument, number, bytesOf, padded, reply}
+use Rattle.refusals.specs.declared.Needs.the-variants.{NewNumber}
+use Rattle.refusals.specs.Refusals.{isPrevious, flushMarks, reasonFor}
+use Rattle.refusals.proofs.Accepting.{accepts}
+use Rattle.registers.specs.Registers.{commandOf, sequenceOf, argument, number, bytesOf, padded, reply}
 use Rattle.mailbox.specs.Commands.{Outcome, numbered, numberedIn, marked, infoArguments, sizeFor, hint, createArguments}
 use Rattle.mailbox.specs.Table.{Command}
-use Rattle.mailbox.specs.Mediator.{commandAt, reasonIn}
+use Rattle.mailbox.specs.Mediator.{commandAt, reasonOf, reasonIn}
 use Rattle.mailbox.proofs.Mediating.{carried, each-command, each-answer}
-use Rattle.invariants.specs.Events.{eventsAfter, AckAsSaid, CommandEvents, EventsShown}
+use Rattle.invariants.specs.Events.{eventsAfter, EventsAsSaid, CommandEvents, EventsShown, DisagreeingRefused}
 
 -- what is to be shown of an outcome: the event byte stands in register 15
 abbrev Shown : Outcome → Type 0
@@ -62,9 +69,15 @@ module _ (setup : Setup) (registers : List ℕ) (m : Machine) where
       each-answer (λ (o : Outcome). o .machine .session .events ≡ before) setup registers m (λ a. served a p)
       (λ code. broken-same code (commandOf registers)) (λ code. refl) (λ code. refl)
 
-  acked : commandOf registers ≡ 9 → reasonIn setup registers m ≡ Accepted → eventsAfter setup registers m ≡ acknowledged (argument 0 registers) before
+  -- an ACK with a new number is accepted by a sound session
+  acked : commandOf registers ≡ 9 → soundIn setup m ≡ true → isPrevious (m .session .previous) (sequenceOf registers) ≡ false
+      → eventsAfter setup registers m ≡ acknowledged (argument 0 registers) before
   unfolding commandAt
-  acked c a = ap (λ (o : Outcome). o .machine .session .events) (carried setup registers m 9 c a)
+  acked c sounds new =
+      ap (λ (o : Outcome). o .machine .session .events)
+      (carried setup registers m 9 c
+      (ap (λ (n : ℕ). reasonOf (commandAt n) (soundIn setup m) registers m) c
+      ∙ accepts (soundIn setup m) (m .session) registers true NewNumber false (record { sounds = sounds; fresh = new; knows = refl; awake = refl; windowed = refl; argued = refl })))
 
   -- ---- what the host sees
   shown-at : (code : ℕ) (arguments : List ℕ) (events : ℕ) → getD (reply registers code (padded arguments) events) 15 0 ≡ events
@@ -92,8 +105,8 @@ module _ (setup : Setup) (registers : List ℕ) (m : Machine) where
       each-command (λ (_ : ℕ) (c : Command). Shown (c .whenBroken code registers (numberedIn registers m)))
       refl refl refl refl refl refl refl refl refl refl (λ _. refl)
 
-pub ack-as-said : AckAsSaid
-ack-as-said setup registers m = (
+pub events-as-said : EventsAsSaid
+events-as-said setup registers m = (
   acked setup registers m,
   unless setup registers m (commandOf registers ≡ 9 → ⊥) (λ a other. served-same setup registers m (commandOf registers) other),
   unless setup registers m (reasonIn setup registers m ≡ Accepted → ⊥) (λ a refused. absurd (refused a)),
@@ -109,3 +122,17 @@ pub events-shown : EventsShown
 events-shown setup registers m =
     each-answer Shown setup registers m (λ _. served-shown setup registers m (commandOf registers))
     (λ code. broken-shown setup registers m code (commandOf registers)) (λ code. refl) (λ code. refl)
+
+-- ---- a disagreement is never sound
+disagreeing : (flash memory : ℕ) (s : Session) → (isSet 0x40 (s .events) ≡ s .suspended → ⊥) → sound flash memory s ≡ false
+disagreeing flash memory s apart =
+    ⊎-elim
+    (λ (e : sound flash memory s ≡ true). absurd (apart (told (s .suspended) (s .events) (fitting _ _ s (sizes flash memory s e .2) .access))))
+    (λ (e : sound flash memory s ≡ false). e)
+    (decided (sound flash memory s))
+
+pub disagreeing-refused : DisagreeingRefused
+unfolding soundAt reasonFor advanced
+disagreeing-refused setup registers m apart =
+    let e = disagreeing (length (m .flash)) (length (m .memory)) (m .session) apart in
+    (rw e, λ done. rw e)

@@ -13,7 +13,7 @@ use Rattle.units.proofs.Cases.{decided, chosen}
 use Rattle.buffers.specs.Ranges.{replace}
 use Rattle.buffers.proofs.Replace.{replace-length}
 use Rattle.session.specs.declared.Session.{Session}
-use Rattle.session.specs.Events.{controlLost, windowReset, daemonReady, setBits, clearBits, acknowledgeable}
+use Rattle.session.specs.Events.{controlLost, windowReset, setBits, clearBits, acknowledgeable}
 use Rattle.session.specs.Machine.{Setup, Machine, lent}
 use Rattle.session.specs.Record.{withAccess, dropWindow, fresh}
 use Rattle.session.specs.Suspension.{answer}
@@ -173,6 +173,6 @@ run-from-fresh setup flash memory whole most calls =
       e,
       record {
         lost = told (m .session .suspended) (m .session .events) (measured setup (length (m .flash)) (length (m .memory)) (m .session) e .fits .access);
-        ready = same-bit 0x43 daemonReady (m .session .events) 0x81 refl (run-events setup calls start);
+        ready = same-bit 0x43 0x80 (m .session .events) 0x81 refl (run-events setup calls start);
       },
     )

@@ -46,7 +46,7 @@ RunServed =
 -- ---- from "a fresh session", wherever the sizes and B are sound
 
 -- what the event byte tells: 0x40 "is set exactly while access is suspended", and 0x80, "daemon ready", is set
-pub record Telling (m : Machine) : Type 0 where
+pub record EventsTell (m : Machine) : Type 0 where
   pub lost : isSet 0x40 (m .session .events) ≡ m .session .suspended
   pub ready : isSet 0x80 (m .session .events) ≡ true
 
@@ -54,4 +54,4 @@ abbrev pub RunFromFresh : Type 0
 RunFromFresh =
     (setup : Setup) (flash memory : List ℕ) → sizesSound (length flash) (length memory) ≡ true → setup .lpc + roundUp (length memory) ≤ 65536
     → (calls : List Call)
-    → (soundIn setup (calledAll setup calls (lent fresh flash memory)) ≡ true) × Telling (calledAll setup calls (lent fresh flash memory))
+    → (soundIn setup (calledAll setup calls (lent fresh flash memory)) ≡ true) × EventsTell (calledAll setup calls (lent fresh flash memory))

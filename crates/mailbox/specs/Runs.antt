@@ -21,7 +21,7 @@ pub data Call : Type 0 where
   -- bytes that another master writes at an offset of the flash
   alter : ℕ → List ℕ → Call
 
--- such bytes; those past the end of a buffer are not its own, and fall away
+-- bytes written to a buffer from outside; those past its end are not its own, and fall away
 abbrev pub written : ℕ → List ℕ → List ℕ → List ℕ
 written at bytes buffer = take (length buffer) (replace at bytes buffer)
 

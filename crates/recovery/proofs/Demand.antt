@@ -100,7 +100,7 @@ module _ (setup : Setup) (s : Session) (flash memory : List ℕ) (sounds : sound
     at-cut =
         record {
           answered = says s flash memory e w events (start (lent s flash memory)) (begins s flash memory e w);
-          run = λ setup. machine-after s flash memory e w setup events (start (lent s flash memory));
+          as-run = λ setup. machine-after s flash memory e w setup events (start (lent s flash memory));
           blocks = block-at s flash memory e w (cut (lent s flash memory) events) r;
           finished = finished-at s flash memory e w (cut (lent s flash memory) events) r;
           old = old-at s flash memory e w (cut (lent s flash memory) events) r;

@@ -111,8 +111,8 @@ Kept s t = t ≡ withAccess (t .suspended) (t .events) s
 pub record AtCut (m : Machine) (events : List Event) : Type 0 where
   -- "For every such list the answers are those of document 01"
   pub answered : answers (actionsOf (m .session)) events (start m) ≡ expected (actionsOf (m .session)) events (m .session .suspended) 0
-  -- "every call gets what the one before left": what is left is what a run of these calls leaves
-  pub run : (setup : Setup) → cut m events .machine ≡ runs.calledAll setup (callsOf (actionsOf (m .session)) events (start m)) m
+  -- "every call gets what the one before left": the machine is that of a run of these calls
+  pub as-run : (setup : Setup) → cut m events .machine ≡ runs.calledAll setup (callsOf (actionsOf (m .session)) events (start m)) m
   -- "It holds what its actions among the first j make of its old bytes"
   pub blocks : (b : ℕ) → b < m .session .size
       → blockAt b (windowPart (m .session) (cut m events .machine .flash))

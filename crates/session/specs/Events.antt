@@ -4,7 +4,7 @@ use mathlib.Core.Bool.{Bool}
 use lib.Bits.{bitAnd, bitOr}
 use lib.Dec.{eqb}
 
--- "0x01 protocol reset, 0x02 window reset, 0x40 flash control lost, 0x80 daemon ready"
+-- "0x01 protocol reset, 0x02 window reset, 0x40 flash control lost"; the fourth, "0x80 daemon ready", stands in `fresh` alone
 abbrev pub protocolReset : ℕ
 protocolReset = 0x01
 
@@ -13,9 +13,6 @@ windowReset = 0x02
 
 abbrev pub controlLost : ℕ
 controlLost = 0x40
-
-abbrev pub daemonReady : ℕ
-daemonReady = 0x80
 
 -- the event byte with the bits of a mask set, and with them cleared
 abbrev pub setBits : ℕ → ℕ → ℕ
@@ -32,6 +29,6 @@ isSet bit events = eqb (bitAnd events bit) bit
 abbrev pub acknowledgeable : ℕ
 acknowledgeable = bitOr protocolReset windowReset
 
--- the event byte after an ACK: those of the two that are named are cleared, and every other bit stays
+-- the event byte after an ACK: those of the two that are named are cleared, and every other bit of the byte stays
 abbrev pub acknowledged : ℕ → ℕ → ℕ
 acknowledged named events = clearBits (bitAnd named acknowledgeable) events

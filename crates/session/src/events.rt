@@ -2,7 +2,7 @@
 ghost use mathlib.Core.Path.{_≡_};
 ghost use Rattle.session.specs.Events.{controlLost, isSet, acknowledged};
 
-// The window was dropped, and not by the host.
+// Access was resumed with changed flash, and the host has no window.
 pub const WINDOW_RESET: u8 = 0x02;
 
 // Flash access is suspended.
