@@ -64,8 +64,9 @@ extern "C" {
 #define HIOMAP_SEQ_ERROR 8
 
 /*
- * The bits of the event byte. The first two are events: an ACK clears those of them that it names. The others
- * are conditions, which no ACK clears: a suspend sets 0x40 and a resume clears it; no call changes another bit.
+ * The bits of the event byte. The first two are events: an ACK clears those of them that it names. The other two
+ * are conditions, which no ACK clears. A suspend sets 0x40, a resume clears it, and one with changed flash also
+ * sets 0x02. No call changes any other bit.
  */
 #define HIOMAP_EVENT_PROTOCOL_RESET 0x01
 #define HIOMAP_EVENT_WINDOW_RESET 0x02
@@ -138,8 +139,9 @@ hiomap_record hiomap_fresh(void);
 
 /*
  * Serves one mailbox command and returns the number of its chip actions.
- *   record     the session; changed in place. A window number above 2, or a flag (numbered, suspended) above
- *              1, is answered with SYSTEM_ERROR, and the record then stays exactly as it is
+ *   record     the session; changed in place. One that is not sound is answered with SYSTEM_ERROR and stays
+ *              exactly as it is: a window number above 2 or a flag (numbered, suspended) above 1, and 0x40
+ *              and suspended that disagree, are among these
  *   registers  the 16 registers as received; they hold the response afterwards
  *   lpc        the window's first LPC block (B)
  *   timeout    the suggested timeout in seconds (T)
@@ -151,7 +153,7 @@ uint32_t hiomap_command(hiomap_record *record, uint8_t (*registers)[HIOMAP_REGIS
 
 /*
  * Flash access is suspended; resumed with the flash as it was; resumed with the flash changed, which drops
- * the window. They act on any record. `done` is false where there was nothing to do, and the record is
+ * the window. They act on any record, and go by `suspended`, not by the event bit 0x40. `done` is false where there was nothing to do, and the record is
  * then the one that was given. `suspended` above 0 counts as yes, also above 1: a suspend has nothing to do
  * then, and a resume makes it 0. `numbered` stays, whatever it is. A window number above 2 is kept by the
  * first two; the third makes it 0. The event byte afterwards belongs into register 15.

@@ -259,13 +259,13 @@ fn print_soundness(name: &str, mut m: Machine) {
     println!("{name}: step {code} {acted}, GET_INFO {} actions {actions}, all kept {kept}", registers[13]);
 }
 
-/// Suspend and resume, twice each, with each window and two event bytes, on sound and unsound sessions.
+/// Suspend and resume, twice each, with each window and several event bytes, suspended at first or not, on sound and unsound sessions.
 fn suspensions(side: Side) {
     for kind in [Kind::Closed, Kind::Read, Kind::Write] {
-        for (events, version) in [(0x81, 2), (0xff, 1), (0x00, 77)] {
+        for (events, suspended, version) in [(0x81, false, 2), (0xff, false, 1), (0x00, false, 77), (0xc1, true, 2), (0x81, true, 1), (0xc1, false, 2)] {
             for last in [Access::Resume, Access::ResumeChanged] {
                 let mut m = with_window(side, version, kind);
-                m.session.events = events;
+                (m.session.events, m.session.suspended) = (events, suspended);
                 m.session.marks[0] = u8::from(kind == Kind::Write);
                 for call in [last, Access::Suspend, Access::Suspend, last, last] {
                     let done = m.access(call);
