@@ -85,7 +85,7 @@ NothingLost =
 -- sessions (crate invariants) holds of C's records. Proved in proofs/Follows.antt
 abbrev pub Follows : Type 0
 Follows =
-    (h : Record) → isRegular h ≡ true
+    (h : Record) (regular : isRegular h ≡ true)
     → ((setup : Setup) (registers flash memory : List ℕ)
     → sessionOf (commanded setup h registers flash memory .held) ≡ mediate setup registers (lent (sessionOf h) flash memory) .machine .session)
     × (sessionOf (suspendedRecord h .held) ≡ suspended (sessionOf h) .session)

@@ -26,7 +26,7 @@ use Rattle.mailbox.specs.Commands.{numbered, marked}
 use Rattle.refusals.specs.Refusals.{flushMarks}
 use Rattle.mailbox.specs.Runs.{send}
 use Rattle.invariants.proofs.Runs.{run-keeps}
-use Rattle.recovery.specs.Cut.{Event, cut, start, Kept, AtCut}
+use Rattle.recovery.specs.Cut.{FirstCall, cut, start, Kept, AtCut}
 use Rattle.recovery.specs.Demand.{Demand3}
 use Rattle.recovery.specs.Second.{Way, bySteps, byFlush, Succeeds, flashAfter, begun, agreeing, opening, SecondRun, StepsSucceed, secondEnd, secondFlash, unstopped, AddsNone, unstoppedFlash}
 use Rattle.recovery.proofs.FirstList.{kept-window, kept-first, kept-size, kept-marks, marks-sound, Running, begins, runs, says, session-after, machine-after, block-at, finished-at, old-at, other-at, length-at, resumed-kept, resume-said, steps-flash, steps-said}
@@ -92,39 +92,39 @@ module _ (setup : Setup) (s : Session) (flash memory : List ℕ) (sounds : sound
       way-flash setup way (unstopped (lent s flash memory)) ok (adds way none) sound₁ (kept-window s (resumed s .session) k ∙ w) awake
       ∙ same-window (resumed s .session) s (kept-first s (resumed s .session) k) (kept-size s (resumed s .session) k) (kept-marks s (resumed s .session) k) memory flash
 
-  module _ (events : List Event) where
-    r : Running s flash memory e w (cut (lent s flash memory) events)
-    r = runs s flash memory e w events (start (lent s flash memory)) (begins s flash memory e w)
+  module _ (list : List FirstCall) where
+    r : Running s flash memory e w (cut (lent s flash memory) list)
+    r = runs s flash memory e w list (start (lent s flash memory)) (begins s flash memory e w)
 
-    at-cut : AtCut (lent s flash memory) events
+    at-cut : AtCut (lent s flash memory) list
     at-cut =
         record {
-          answered = says s flash memory e w events (start (lent s flash memory)) (begins s flash memory e w);
-          as-run = λ setup. machine-after s flash memory e w setup events (start (lent s flash memory));
-          blocks = block-at s flash memory e w (cut (lent s flash memory) events) r;
-          finished = finished-at s flash memory e w (cut (lent s flash memory) events) r;
-          old = old-at s flash memory e w (cut (lent s flash memory) events) r;
-          others = other-at s flash memory e w (cut (lent s flash memory) events) r;
-          flash-size = length-at s flash memory e w (cut (lent s flash memory) events) r;
-          session = session-after s flash memory e w events (start (lent s flash memory));
+          answered = says s flash memory e w list (start (lent s flash memory)) (begins s flash memory e w);
+          as-run = λ setup. machine-after s flash memory e w setup list (start (lent s flash memory));
+          blocks = block-at s flash memory e w (cut (lent s flash memory) list) r;
+          finished = finished-at s flash memory e w (cut (lent s flash memory) list) r;
+          old = old-at s flash memory e w (cut (lent s flash memory) list) r;
+          others = other-at s flash memory e w (cut (lent s flash memory) list) r;
+          flash-size = length-at s flash memory e w (cut (lent s flash memory) list) r;
+          session = session-after s flash memory e w list (start (lent s flash memory));
           kept = r .kept;
           memory-same = r .memory-is;
         }
 
     abbrev Again : Type 0
-    Again = SecondRun setup (lent s flash memory) (cut (lent s flash memory) events .machine .flash)
+    Again = SecondRun setup (lent s flash memory) (cut (lent s flash memory) list .machine .flash)
 
     abbrev end : Again → Machine
-    end q = secondEnd setup (lent s flash memory) (cut (lent s flash memory) events .machine .flash) q
+    end q = secondEnd setup (lent s flash memory) (cut (lent s flash memory) list .machine .flash) q
 
     -- ---- the second run: its window is open again
-    second-open : (q : Again) → Open (s .first) (s .size) (length memory) (cut (lent s flash memory) events .machine .flash) (end q)
+    second-open : (q : Again) → Open (s .first) (s .size) (length memory) (cut (lent s flash memory) list .machine .flash) (end q)
     second-open q =
         subst (λ (n : ℕ). Open (s .first) (s .size) n f₁ (end q)) long₁
         (subst (λ (f : List ℕ). Open (s .first) (s .size) (length (m₁ .memory)) f (end q)) (ap (λ (m : Machine). m .flash) left₁) o₃)
       where
         f₁ : List ℕ
-        f₁ = cut (lent s flash memory) events .machine .flash
+        f₁ = cut (lent s flash memory) list .machine .flash
 
         m₁ : Machine
         m₁ = agreeing setup (q .info) f₁ (q .other)
@@ -148,10 +148,10 @@ module _ (setup : Setup) (s : Session) (flash memory : List ℕ) (sounds : sound
 
     second-sound : (q : Again) → sound (length (end q .flash)) (length (end q .memory)) (end q .session) ≡ true
     second-sound q =
-        let f₁ = cut (lent s flash memory) events .machine .flash in
+        let f₁ = cut (lent s flash memory) list .machine .flash in
         measured setup (length (end q .flash)) (length (end q .memory)) (end q .session)
         (run-keeps setup (send (q .info) ∷ send (q .create) ∷ q .calls) (begun f₁ (q .other))
-        (fresh-as setup (length flash) (length memory) s sounds (length f₁) (length (q .other)) (length-at s flash memory e w (cut (lent s flash memory) events) r) (q .other-size)))
+        (fresh-as setup (length flash) (length memory) s sounds (length f₁) (length (q .other)) (length-at s flash memory e w (cut (lent s flash memory) list) r) (q .other-size)))
         .sound
 
     second-steps : (q : Again) → StepsSucceed (end q)
@@ -159,25 +159,25 @@ module _ (setup : Setup) (s : Session) (flash memory : List ℕ) (sounds : sound
         let o = second-open q in
         steps-said (end q .session) (end q .flash) (end q .memory) (second-sound q) (o .window) (o .awake)
 
-    second-ends : (q : Again) → secondFlash setup (lent s flash memory) (cut (lent s flash memory) events .machine .flash) q ≡ performIn s memory (windowActions s) flash
+    second-ends : (q : Again) → secondFlash setup (lent s flash memory) (cut (lent s flash memory) list .machine .flash) q ≡ performIn s memory (windowActions s) flash
     second-ends q =
         let o = second-open q in
         way-flash setup (q .way) (end q) (q .way-succeeds) (adds-none (q .way) (end q .session) (o .agreed)) (second-sound q) (o .window) (o .awake)
         ∙ same-window (end q .session) s (o .first-is) (o .size-is) (q .same-marks) (end q .memory) (end q .flash)
         ∙ ap (performIn s (end q .memory) (windowActions s)) (o .flash-is ∙ r .flash-is)
         ∙ after-cut s flash (part-within (length flash) (length memory) s e .0) memory room (marks-sound s flash memory e w) (end q .memory)
-        (subst (λ (n : ℕ). toBytes (s .size) ≤ n) (sym (o .memory-long)) room) (q .same-bytes) (cut (lent s flash memory) events .count)
+        (subst (λ (n : ℕ). toBytes (s .size) ≤ n) (sym (o .memory-long)) room) (q .same-bytes) (cut (lent s flash memory) list .count)
 
 -- the statement stands in specs/Demand.antt
 pub demand-3 : Demand3
-demand-3 setup m sounds w events =
+demand-3 setup m sounds w list =
     let s = m .session in
     let flash = m .flash in
     let memory = m .memory in (
-      at-cut setup s flash memory sounds w events,
+      at-cut setup s flash memory sounds w list,
       λ second way ok none. (
-        second-ends setup s flash memory sounds w events second ∙ sym (never-stopped setup s flash memory sounds w way ok none),
-        second-steps setup s flash memory sounds w events second,
+        second-ends setup s flash memory sounds w list second ∙ sym (never-stopped setup s flash memory sounds w way ok none),
+        second-steps setup s flash memory sounds w list second,
         unstopped-steps setup s flash memory sounds w,
       ),
     )

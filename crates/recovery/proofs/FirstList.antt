@@ -31,7 +31,7 @@ use Rattle.flush.proofs.Bytes.{AllIn}
 use Rattle.flush.proofs.Cuts.{all-flush, all-take, all-drop, block-after, passed-finished, ahead-old, cut-clean}
 use Rattle.flush.proofs.Whole.{part-length, in-none, in-length, in-part, in-outside, in-append, in-same}
 use Rattle.mailbox.specs.Runs.{calledAll}
-use Rattle.recovery.specs.Cut.{Event, step, suspend, resume, State, Said, stepped, told, counted, after, answer, afterAll, answers, expected, accessAfter, actionsOf, start, callsOf, inMarked, Kept}
+use Rattle.recovery.specs.Cut.{FirstCall, step, suspend, resume, State, Said, stepped, told, counted, after, answer, afterAll, answers, expected, accessAfter, actionsOf, start, callsOf, inMarked, Kept}
 
 -- what a session that differs in its suspension and event byte alone has of the other
 module _ (s t : Session) (k : Kept s t) where
@@ -87,7 +87,7 @@ module _ (s : Session) (flash memory : List ℕ) (e : sound (length flash) (leng
   all : AllIn (s .size) (windowActions s)
   all = all-flush (s .size) (s .marks) marks-sound
 
-  -- what holds between two events
+  -- what holds between two calls
   pub record Running (st : State) : Type 0 where
     pub kept : Kept s (st .machine .session)
     pub sounds : sound (length flash) (length memory) (st .machine .session) ≡ true
@@ -192,7 +192,7 @@ module _ (s : Session) (flash memory : List ℕ) (e : sound (length flash) (leng
       by : Bool → Session
       by b = saying b t (withAccess false (clearBits controlLost (t .events)) t) .session
 
-  goes : (event : Event) (st : State) → Running st → Running (after N event st)
+  goes : (call : FirstCall) (st : State) → Running st → Running (after N call st)
   goes step st r = step-goes st r
   goes suspend st r =
       record {
@@ -211,9 +211,9 @@ module _ (s : Session) (flash memory : List ℕ) (e : sound (length flash) (leng
         flash-is = r .flash-is;
       }
 
-  pub runs : (events : List Event) (st : State) → Running st → Running (afterAll N events st)
+  pub runs : (list : List FirstCall) (st : State) → Running st → Running (afterAll N list st)
   runs [] st r = r
-  runs (event ∷ events) st r = runs events (after N event st) (goes event st r)
+  runs (call ∷ list) st r = runs list (after N call st) (goes call st r)
 
   -- ---- the answers
   step-said : (st : State) → Running st
@@ -264,34 +264,34 @@ module _ (s : Session) (flash memory : List ℕ) (e : sound (length flash) (leng
       after-it : Bool → Bool
       after-it b = by b .session .suspended
 
-  pub says : (events : List Event) (st : State) → Running st → answers N events st ≡ expected N events (st .machine .session .suspended) (st .count)
+  pub says : (list : List FirstCall) (st : State) → Running st → answers N list st ≡ expected N list (st .machine .session .suspended) (st .count)
   says [] st r = refl
-  says (step ∷ events) st r =
-      ap (λ (x : Said). x ∷ answers N events (after N step st)) (step-said st r)
-      ∙ ap (λ (xs : List Said). cond (st .machine .session .suspended) (stepped 6 false) (stepped 1 (ltb (st .count) N)) ∷ xs) (says events (after N step st) (goes step st r))
-  says (suspend ∷ events) st r =
+  says (step ∷ list) st r =
+      ap (λ (x : Said). x ∷ answers N list (after N step st)) (step-said st r)
+      ∙ ap (λ (xs : List Said). cond (st .machine .session .suspended) (stepped 6 false) (stepped 1 (ltb (st .count) N)) ∷ xs) (says list (after N step st) (goes step st r))
+  says (suspend ∷ list) st r =
       let t = suspend-said (st .machine .session) in
-      ap (λ (x : Bool). told x ∷ answers N events (after N suspend st)) (t .0)
-      ∙ ap (λ (xs : List Said). told (not (st .machine .session .suspended)) ∷ xs) (says events (after N suspend st) (goes suspend st r) ∙ ap (λ (b : Bool). expected N events b (st .count)) (t .1))
-  says (resume ∷ events) st r =
+      ap (λ (x : Bool). told x ∷ answers N list (after N suspend st)) (t .0)
+      ∙ ap (λ (xs : List Said). told (not (st .machine .session .suspended)) ∷ xs) (says list (after N suspend st) (goes suspend st r) ∙ ap (λ (b : Bool). expected N list b (st .count)) (t .1))
+  says (resume ∷ list) st r =
       let t = resume-said (st .machine .session) in
-      ap (λ (x : Bool). told x ∷ answers N events (after N resume st)) (t .0)
-      ∙ ap (λ (xs : List Said). told (st .machine .session .suspended) ∷ xs) (says events (after N resume st) (goes resume st r) ∙ ap (λ (b : Bool). expected N events b (st .count)) (t .1))
+      ap (λ (x : Bool). told x ∷ answers N list (after N resume st)) (t .0)
+      ∙ ap (λ (xs : List Said). told (st .machine .session .suspended) ∷ xs) (says list (after N resume st) (goes resume st r) ∙ ap (λ (b : Bool). expected N list b (st .count)) (t .1))
 
   -- ---- the session
-  pub session-after : (events : List Event) (st : State) → afterAll N events st .machine .session ≡ accessAfter events (st .machine .session)
+  pub session-after : (list : List FirstCall) (st : State) → afterAll N list st .machine .session ≡ accessAfter list (st .machine .session)
   session-after [] st = refl
-  session-after (step ∷ events) st = session-after events (after N step st)
-  session-after (suspend ∷ events) st = session-after events (after N suspend st)
-  session-after (resume ∷ events) st = session-after events (after N resume st)
+  session-after (step ∷ list) st = session-after list (after N step st)
+  session-after (suspend ∷ list) st = session-after list (after N suspend st)
+  session-after (resume ∷ list) st = session-after list (after N resume st)
 
   -- ---- and as a run of calls
-  pub machine-after : (setup : Setup) (events : List Event) (st : State)
-      → afterAll N events st .machine ≡ calledAll setup (callsOf N events st) (st .machine)
+  pub machine-after : (setup : Setup) (list : List FirstCall) (st : State)
+      → afterAll N list st .machine ≡ calledAll setup (callsOf N list st) (st .machine)
   machine-after setup [] st = refl
-  machine-after setup (step ∷ events) st = machine-after setup events (after N step st)
-  machine-after setup (suspend ∷ events) st = machine-after setup events (after N suspend st)
-  machine-after setup (resume ∷ events) st = machine-after setup events (after N resume st)
+  machine-after setup (step ∷ list) st = machine-after setup list (after N step st)
+  machine-after setup (suspend ∷ list) st = machine-after setup list (after N suspend st)
+  machine-after setup (resume ∷ list) st = machine-after setup list (after N resume st)
 
   -- ---- the flash at the cut
   module _ (st : State) (r : Running st) where

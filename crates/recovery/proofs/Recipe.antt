@@ -384,11 +384,11 @@ module _ (setup : Setup) (s : Session) (flash memory : List ℕ) (sounds : sound
 
 -- the statement stands in specs/Recipe.antt
 pub recovers : Recovers
-recovers setup m sounds w many events other other-size =
+recovers setup m sounds w many list other other-size =
     let s = m .session in
     let memory = m .memory in
-    let f = cut m events .machine .flash in
-    let same : length f ≡ length (m .flash) = demand-3 setup m sounds w events .0 .flash-size in
+    let f = cut m list .machine .flash in
+    let same : length f ≡ length (m .flash) = demand-3 setup m sounds w list .0 .flash-size in
     let sounds₁ : soundAt setup (length f) (length memory) s ≡ true = ap (λ (n : ℕ). soundAt setup n (length memory) s) same ∙ sounds in (
       second setup s f memory sounds₁ w many other other-size (m .flash) bySteps tt,
       second setup s f memory sounds₁ w many other other-size (m .flash) (byFlush flushAll) (flushes setup s f memory sounds₁ w many other other-size),

@@ -16,8 +16,8 @@ use Rattle.flush.specs.Window.{windowActions, windowPart, partEnd, advanced}
 use Rattle.mailbox.specs.Runs as runs
 
 -- "any list of flush steps, suspends and resumes without changed flash"
-pub data Event : Type 0 where
-  step suspend resume : Event
+pub data FirstCall : Type 0 where
+  step suspend resume : FirstCall
 
 -- what a call finds and leaves, and the count j
 pub record State : Type 0 where
@@ -33,8 +33,8 @@ pub data Said : Type 0 where
 abbrev pub counted : ℕ → Bool → ℕ → ℕ
 counted N isSuspended j = cond (not isSuspended && ltb j N) (j + 1) j
 
--- one event: "A step is given j". A step changes only the flash, suspend and resume only the session
-abbrev pub after : ℕ → Event → State → State
+-- one call: "A step is given j". A step changes only the flash, suspend and resume only the session
+abbrev pub after : ℕ → FirstCall → State → State
 after N step s =
     record {
       machine = lent (s .machine .session) (advanced (s .machine) (s .count) .flash) (s .machine .memory);
@@ -44,36 +44,36 @@ after N suspend s = record { machine = holding (suspended (s .machine .session) 
 after N resume s = record { machine = holding (resumed (s .machine .session) .session) (s .machine); count = s .count }
 
 -- its answer
-abbrev pub answer : Event → State → Said
+abbrev pub answer : FirstCall → State → Said
 answer step s = stepped (advanced (s .machine) (s .count) .code) (advanced (s .machine) (s .count) .yes)
 answer suspend s = told (suspended (s .machine .session) .done)
 answer resume s = told (resumed (s .machine .session) .done)
 
--- a list of events: "every call gets what the one before left"
-abbrev pub afterAll : ℕ → List Event → State → State
+-- a list of them: "every call gets what the one before left"
+abbrev pub afterAll : ℕ → List FirstCall → State → State
 afterAll N [] s = s
-afterAll N (e ∷ events) s = afterAll N events (after N e s)
+afterAll N (e ∷ list) s = afterAll N list (after N e s)
 
 -- and its answers
-abbrev pub answers : ℕ → List Event → State → List Said
+abbrev pub answers : ℕ → List FirstCall → State → List Said
 answers N [] s = []
-answers N (e ∷ events) s = answer e s ∷ answers N events (after N e s)
+answers N (e ∷ list) s = answer e s ∷ answers N list (after N e s)
 
 -- the answers that document 01 gives: "A step .. answers 6 while suspended, otherwise 1, with yes exactly if it adds"; "Suspending twice, or
 -- resuming when not suspended, .. answers no; otherwise they answer yes"
-abbrev pub expected : ℕ → List Event → Bool → ℕ → List Said
+abbrev pub expected : ℕ → List FirstCall → Bool → ℕ → List Said
 expected N [] isSuspended j = []
-expected N (step ∷ events) isSuspended j =
-    cond isSuspended (stepped 6 false) (stepped 1 (ltb j N)) ∷ expected N events isSuspended (counted N isSuspended j)
-expected N (suspend ∷ events) isSuspended j = told (not isSuspended) ∷ expected N events true j
-expected N (resume ∷ events) isSuspended j = told isSuspended ∷ expected N events false j
+expected N (step ∷ list) isSuspended j =
+    cond isSuspended (stepped 6 false) (stepped 1 (ltb j N)) ∷ expected N list isSuspended (counted N isSuspended j)
+expected N (suspend ∷ list) isSuspended j = told (not isSuspended) ∷ expected N list true j
+expected N (resume ∷ list) isSuspended j = told isSuspended ∷ expected N list false j
 
 -- the session as the suspends and resumes of a list leave it: the steps leave it alone
-abbrev pub accessAfter : List Event → Session → Session
+abbrev pub accessAfter : List FirstCall → Session → Session
 accessAfter [] s = s
-accessAfter (step ∷ events) s = accessAfter events s
-accessAfter (suspend ∷ events) s = accessAfter events (suspended s .session)
-accessAfter (resume ∷ events) s = accessAfter events (resumed s .session)
+accessAfter (step ∷ list) s = accessAfter list s
+accessAfter (suspend ∷ list) s = accessAfter list (suspended s .session)
+accessAfter (resume ∷ list) s = accessAfter list (resumed s .session)
 
 -- "the flush has N actions"
 abbrev pub actionsOf : Session → ℕ
@@ -84,18 +84,18 @@ abbrev pub start : Machine → State
 start m = record { machine = m; count = 0 }
 
 -- and after the list, where the cut falls
-abbrev pub cut : Machine → List Event → State
-cut m events = afterAll (actionsOf (m .session)) events (start m)
+abbrev pub cut : Machine → List FirstCall → State
+cut m list = afterAll (actionsOf (m .session)) list (start m)
 
 -- the list as a run of calls: "A step is given j"
-abbrev pub callFor : Event → ℕ → runs.Call
+abbrev pub callFor : FirstCall → ℕ → runs.Call
 callFor step j = runs.advance j
 callFor suspend j = runs.suspend
 callFor resume j = runs.resume
 
-abbrev pub callsOf : ℕ → List Event → State → List runs.Call
+abbrev pub callsOf : ℕ → List FirstCall → State → List runs.Call
 callsOf N [] s = []
-callsOf N (e ∷ events) s = callFor e (s .count) ∷ callsOf N events (after N e s)
+callsOf N (e ∷ list) s = callFor e (s .count) ∷ callsOf N list (after N e s)
 
 -- the byte of the flash at x lies in a marked block
 abbrev pub inMarked : Session → ℕ → Bool
@@ -108,26 +108,26 @@ abbrev pub Kept : Session → Session → Type 0
 Kept s t = t ≡ withAccess (t .suspended) (t .events) s
 
 -- what holds at the cut, of the machine at the first list's start
-pub record AtCut (m : Machine) (events : List Event) : Type 0 where
+pub record AtCut (m : Machine) (list : List FirstCall) : Type 0 where
   -- "For every such list the answers are those of document 01"
-  pub answered : answers (actionsOf (m .session)) events (start m) ≡ expected (actionsOf (m .session)) events (m .session .suspended) 0
+  pub answered : answers (actionsOf (m .session)) list (start m) ≡ expected (actionsOf (m .session)) list (m .session .suspended) 0
   -- "every call gets what the one before left": the machine is that of a run of these calls
-  pub as-run : (setup : Setup) → cut m events .machine ≡ runs.calledAll setup (callsOf (actionsOf (m .session)) events (start m)) m
+  pub as-run : (setup : Setup) → cut m list .machine ≡ runs.calledAll setup (callsOf (actionsOf (m .session)) list (start m)) m
   -- "It holds what its actions among the first j make of its old bytes"
   pub blocks : (b : ℕ) → b < m .session .size
-      → blockAt b (windowPart (m .session) (cut m events .machine .flash))
-      ≡ leaves (m .memory) b (take (cut m events .count) (windowActions (m .session))) (windowPart (m .session) (m .flash))
+      → blockAt b (windowPart (m .session) (cut m list .machine .flash))
+      ≡ leaves (m .memory) b (take (cut m list .count) (windowActions (m .session))) (windowPart (m .session) (m .flash))
   -- "Marked blocks already passed are finished", "finished is what all of them make"
-  pub finished : (b : ℕ) → b < m .session .size → progress b (cut m events .count) (windowActions (m .session)) ≡ passed
-      → blockAt b (windowPart (m .session) (cut m events .machine .flash))
+  pub finished : (b : ℕ) → b < m .session .size → progress b (cut m list .count) (windowActions (m .session)) ≡ passed
+      → blockAt b (windowPart (m .session) (cut m list .machine .flash))
       ≡ leaves (m .memory) b (windowActions (m .session)) (windowPart (m .session) (m .flash))
   -- "those still ahead are old"
-  pub old : (b : ℕ) → b < m .session .size → progress b (cut m events .count) (windowActions (m .session)) ≡ ahead
-      → blockAt b (windowPart (m .session) (cut m events .machine .flash)) ≡ blockAt b (windowPart (m .session) (m .flash))
+  pub old : (b : ℕ) → b < m .session .size → progress b (cut m list .count) (windowActions (m .session)) ≡ ahead
+      → blockAt b (windowPart (m .session) (cut m list .machine .flash)) ≡ blockAt b (windowPart (m .session) (m .flash))
   -- "every other byte is as before"
-  pub others : (x : ℕ) → inMarked (m .session) x ≡ false → getD (cut m events .machine .flash) x 0 ≡ getD (m .flash) x 0
-  pub flash-size : length (cut m events .machine .flash) ≡ length (m .flash)
+  pub others : (x : ℕ) → inMarked (m .session) x ≡ false → getD (cut m list .machine .flash) x 0 ≡ getD (m .flash) x 0
+  pub flash-size : length (cut m list .machine .flash) ≡ length (m .flash)
   -- the session and the window memory
-  pub session : cut m events .machine .session ≡ accessAfter events (m .session)
-  pub kept : Kept (m .session) (cut m events .machine .session)
-  pub memory-same : cut m events .machine .memory ≡ m .memory
+  pub session : cut m list .machine .session ≡ accessAfter list (m .session)
+  pub kept : Kept (m .session) (cut m list .machine .session)
+  pub memory-same : cut m list .machine .memory ≡ m .memory

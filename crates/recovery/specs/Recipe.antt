@@ -16,7 +16,7 @@ use Rattle.soundness.specs.Soundness.{soundIn}
 use Rattle.registers.specs.Registers.{bytesOf}
 use Rattle.mailbox.specs.Runs.{Call, send, write}
 use Rattle.mailbox.specs.Table as table
-use Rattle.recovery.specs.Cut.{Event, cut}
+use Rattle.recovery.specs.Cut.{FirstCall, cut}
 use Rattle.recovery.specs.Second.{Way, bySteps, byFlush, SecondRun}
 
 -- the 16 registers of a command: its code, its sequence number, and two 16-bit arguments
@@ -76,6 +76,6 @@ pub record ByRecipe (setup : Setup) (m : Machine) (flash other : List ℕ) (way 
 abbrev pub Recovers : Type 0
 Recovers =
     (setup : Setup) (m : Machine) → soundIn setup m ≡ true → m .session .window ≡ Write → length (m .session .marks) ≡ 64
-    → (events : List Event) (other : List ℕ) → length other ≡ length (m .memory)
-    → ByRecipe setup m (cut m events .machine .flash) other bySteps
-    × ByRecipe setup m (cut m events .machine .flash) other (byFlush flushAll)
+    → (list : List FirstCall) (other : List ℕ) → length other ≡ length (m .memory)
+    → ByRecipe setup m (cut m list .machine .flash) other bySteps
+    × ByRecipe setup m (cut m list .machine .flash) other (byFlush flushAll)
