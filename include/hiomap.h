@@ -153,10 +153,11 @@ uint32_t hiomap_command(hiomap_record *record, uint8_t (*registers)[HIOMAP_REGIS
 
 /*
  * Flash access is suspended; resumed with the flash as it was; resumed with the flash changed, which drops
- * the window. They act on any record, and go by `suspended`, not by the event bit 0x40. `done` is false where there was nothing to do, and the record is
- * then the one that was given. `suspended` above 0 counts as yes, also above 1: a suspend has nothing to do
- * then, and a resume makes it 0. `numbered` stays, whatever it is. A window number above 2 is kept by the
- * first two; the third makes it 0. The event byte afterwards belongs into register 15.
+ * the window. They act on any record, and go by `suspended`, not by the event bit 0x40. `done` is false where
+ * there was nothing to do, and the record is then the one that was given. `suspended` above 0 counts as yes,
+ * also above 1: a suspend has nothing to do then, and a resume makes it 0. `numbered` stays, whatever it is. A
+ * window number above 2 is kept by the first two; the third makes it 0. The event byte afterwards belongs into
+ * register 15.
  */
 hiomap_suspended hiomap_suspend(hiomap_record record);
 hiomap_suspended hiomap_resume(hiomap_record record);
