@@ -17,6 +17,7 @@ use Rattle.session.specs.Events.{controlLost, windowReset, setBits, clearBits, 
 use Rattle.session.specs.Machine.{Setup, Machine, lent}
 use Rattle.session.specs.Record.{withAccess, dropWindow, fresh}
 use Rattle.session.specs.Suspension.{answer}
+use Rattle.session.proofs.Answers.{either-way}
 use Rattle.session.proofs.Bits.{same-part, same-bit, clear-within, set-within}
 use Rattle.soundness.specs.Soundness.{sound, soundAt, soundIn}
 use Rattle.soundness.proofs.Access.{told}
@@ -63,21 +64,21 @@ step-long m done =
         (all-take (s .size) 1 (drop done (windowActions s)) (all-drop (s .size) done (windowActions s) all))
 
 -- bytes that others write
-pub write-long : (at : ℕ) (bytes memory : List ℕ) → length (written at bytes memory) ≡ length memory
-write-long at bytes memory =
-    length-take (length memory) (replace at bytes memory) ∙ least
+pub write-long : (at : ℕ) (bytes buffer : List ℕ) → length (written at bytes buffer) ≡ length buffer
+write-long at bytes buffer =
+    length-take (length buffer) (replace at bytes buffer) ∙ least
   where
-    longer : length memory ≤ length (replace at bytes memory)
+    longer : length buffer ≤ length (replace at bytes buffer)
     longer = simp (length-append, length-take, length-drop) (omega arith)
 
-    least : min (length memory) (length (replace at bytes memory)) ≡ length memory
+    least : min (length buffer) (length (replace at bytes buffer)) ≡ length buffer
     least = omega (arith, longer)
 
 -- those that fit replace a range
-pub write-within : (at : ℕ) (bytes memory : List ℕ) → at + length bytes ≤ length memory → written at bytes memory ≡ replace at bytes memory
-write-within at bytes memory fits =
-    let same = replace-length at bytes memory fits in
-    take-all (length memory) (replace at bytes memory) (omega arith)
+pub write-within : (at : ℕ) (bytes buffer : List ℕ) → at + length bytes ≤ length buffer → written at bytes buffer ≡ replace at bytes buffer
+write-within at bytes buffer fits =
+    let same = replace-length at bytes buffer fits in
+    take-all (length buffer) (replace at bytes buffer) (omega arith)
 
 call-long : (setup : Setup) (call : Call) (m : Machine)
     → (length (called setup call m .flash) ≡ length (m .flash)) × (length (called setup call m .memory) ≡ length (m .memory))
@@ -101,11 +102,9 @@ run-lengths setup (call ∷ calls) m =
 
 -- ---- event bits
 
--- yes, or no and the session as it was
 access-same : (acts : Bool) (s t : Session) → bitAnd (t .events) 0xbc ≡ bitAnd (s .events) 0xbc
     → bitAnd (answer acts s t .session .events) 0xbc ≡ bitAnd (s .events) 0xbc
-access-same true s t e = e
-access-same false s t e = refl
+access-same acts s t e = either-way (λ (u : Session). bitAnd (u .events) 0xbc ≡ bitAnd (s .events) 0xbc) acts s t refl e
 
 call-events : (setup : Setup) (call : Call) (m : Machine)
     → bitAnd (called setup call m .session .events) 0xbc ≡ bitAnd (m .session .events) 0xbc

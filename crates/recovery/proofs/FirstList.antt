@@ -1,5 +1,5 @@
 -- The first list: whatever it is, the first j actions stand and the others do not.
-use mathlib.Core.Path.{_≡_, refl, sym, ap, _∙_, subst}
+use mathlib.Core.Path.{_≡_, refl, sym, ap, _∙_}
 use mathlib.Core.Bool.{Bool, true, false, cond, not}
 use mathlib.Core.List.{List, [], _∷_, _++_, append-nil}
 use mathlib.Core.Logic.{_⊎_, inl, inr, ⊎-elim}
@@ -21,6 +21,7 @@ use Rattle.session.specs.Record.{withAccess}
 use Rattle.soundness.specs.Soundness.{marksSound, markable, sound}
 use Rattle.session.specs.declared.suspension.Suspension.{Suspension}
 use Rattle.session.specs.Suspension.{answer as saying, suspended, resumed}
+use Rattle.session.proofs.Answers.{either-way}
 use Rattle.soundness.proofs.Access.{suspended-sound, resumed-sound}
 use Rattle.soundness.proofs.Facts.{sizes, fitting, part-within}
 use Rattle.buffers.proofs.Replace.{range-at}
@@ -174,23 +175,11 @@ module _ (s : Session) (flash memory : List ℕ) (e : sound (length flash) (leng
 
   suspended-kept : (t : Session) → Kept s t → Kept s (suspended t .session)
   suspended-kept t k =
-      ⊎-elim
-      (λ (u : t .suspended ≡ true). subst (Kept s) (sym (ap by u)) k)
-      (λ (u : t .suspended ≡ false). subst (Kept s) (sym (ap by u)) (access t k true (setBits controlLost (t .events))))
-      (decided (t .suspended))
-    where
-      by : Bool → Session
-      by b = saying (not b) t (withAccess true (setBits controlLost (t .events)) t) .session
+      either-way (Kept s) (not (t .suspended)) t (withAccess true (setBits controlLost (t .events)) t) k (access t k true (setBits controlLost (t .events)))
 
   pub resumed-kept : (t : Session) → Kept s t → Kept s (resumed t .session)
   resumed-kept t k =
-      ⊎-elim
-      (λ (u : t .suspended ≡ true). subst (Kept s) (sym (ap by u)) (access t k false (clearBits controlLost (t .events))))
-      (λ (u : t .suspended ≡ false). subst (Kept s) (sym (ap by u)) k)
-      (decided (t .suspended))
-    where
-      by : Bool → Session
-      by b = saying b t (withAccess false (clearBits controlLost (t .events)) t) .session
+      either-way (Kept s) (t .suspended) t (withAccess false (clearBits controlLost (t .events)) t) k (access t k false (clearBits controlLost (t .events)))
 
   goes : (call : FirstCall) (st : State) → Running st → Running (after N call st)
   goes step st r = step-goes st r

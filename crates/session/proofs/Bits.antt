@@ -1,32 +1,26 @@
 -- Laws of bits, and what each change of the event byte leaves of the others.
 use mathlib.Core.Path.{_≡_, refl, sym, ap, _∙_}
 use mathlib.Core.Bool.{true, false}
-use Prim.Native.Nat.{ℕ, zero, suc, _-_, _/_, _%_, _≤_, _<_, min, max}
+use Prim.Native.Nat.{ℕ, zero, suc, _-_, _/_, _%_, _≤_, min, max}
 use native.Mathlib.Omega.{arith}
-use lib.Arith.{bin-ind, digits-div, digits-mod}
+use lib.Arith.{bin-ind}
 use lib.Bits.{bitAnd, bitOr, and-step, or-step, and-self, and-zero-r, or-zero-r, and-le-r}
 use lib.Dec.{eqb}
 use borrow.Author.Tests.{eq-eqb}
 use Rattle.session.specs.Events.{setBits, clearBits, isSet, acknowledgeable, acknowledged}
 
 -- ---- the digits of a result
-and-low : (a b : ℕ) → min (a % 2) (b % 2) < 2
-and-low a b = omega arith
-
-or-low : (a b : ℕ) → max (a % 2) (b % 2) < 2
-or-low a b = omega arith
-
 and-half : (a b : ℕ) → bitAnd a b / 2 ≡ bitAnd (a / 2) (b / 2)
-and-half a b = ap (λ (n : ℕ). n / 2) (and-step a b) ∙ digits-div (bitAnd (a / 2) (b / 2)) (and-low a b)
+and-half a b = omega (arith, and-step a b)
 
 and-odd : (a b : ℕ) → bitAnd a b % 2 ≡ min (a % 2) (b % 2)
-and-odd a b = ap (λ (n : ℕ). n % 2) (and-step a b) ∙ digits-mod (bitAnd (a / 2) (b / 2)) (and-low a b)
+and-odd a b = omega (arith, and-step a b)
 
 or-half : (a b : ℕ) → bitOr a b / 2 ≡ bitOr (a / 2) (b / 2)
-or-half a b = ap (λ (n : ℕ). n / 2) (or-step a b) ∙ digits-div (bitOr (a / 2) (b / 2)) (or-low a b)
+or-half a b = omega (arith, or-step a b)
 
 or-odd : (a b : ℕ) → bitOr a b % 2 ≡ max (a % 2) (b % 2)
-or-odd a b = ap (λ (n : ℕ). n % 2) (or-step a b) ∙ digits-mod (bitOr (a / 2) (b / 2)) (or-low a b)
+or-odd a b = omega (arith, or-step a b)
 
 -- ---- two operations, one after the other
 and-assoc : (a b c : ℕ) → bitAnd (bitAnd a b) c ≡ bitAnd a (bitAnd b c)

@@ -7,6 +7,7 @@ use Rattle.session.specs.declared.Session.{Session}
 use Rattle.session.specs.Events.{controlLost, windowReset, setBits, clearBits, isSet, acknowledgeable, acknowledged}
 use Rattle.session.specs.Record.{withAccess, dropWindow}
 use Rattle.session.specs.Suspension.{answer, suspended, resumed, resumedChanged}
+use Rattle.session.proofs.Answers.{either-way}
 use Rattle.session.proofs.Bits.{set-bit, cleared-bit, same-bit, set-within, acknowledged-others}
 use Rattle.units.specs.Units.{roundUp}
 use Rattle.soundness.specs.Soundness.{accessSound, sound}
@@ -37,10 +38,8 @@ module _ (flash memory : ℕ) (s : Session) (e : sound flash memory s ≡ true) 
   f : Fitting (roundUp flash) (roundUp memory) s
   f = fitting (roundUp flash) (roundUp memory) s (sizes flash memory s e .2)
 
-  -- yes, or no and the session as it was
   either : (acts : Bool) (t : Session) → sound flash memory t ≡ true → sound flash memory (answer acts s t .session) ≡ true
-  either true t h = h
-  either false t h = e
+  either acts t h = either-way (λ (u : Session). sound flash memory u ≡ true) acts s t e h
 
   pub suspended-sound : sound flash memory (suspended s .session) ≡ true
   suspended-sound =
