@@ -127,7 +127,7 @@ created window setup registers m =
     setup registers m
 
 -- ---- 5 CLOSE_WINDOW: "flushes a write window, then drops it. Without a window: success, nothing done (house). The flags of version 2 have
--- no effect."
+-- no effect": those that `undefinedFlags` lets pass, 0 and 1 (02, Ticket 7)
 abbrev pub closed : List ℕ → Machine → Outcome
 closed registers m = closing 1 registers m
 

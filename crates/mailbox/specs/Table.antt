@@ -11,7 +11,7 @@ use Rattle.session.specs.declared.Window.the-variants.{Read, Write}
 use Rattle.session.specs.Machine.{Setup, Machine}
 use Rattle.refusals.specs.declared.Needs.{Needs}
 use Rattle.refusals.specs.declared.Needs.the-variants.{Nothing, NewNumber, Access, WriteWindow}
-use Rattle.refusals.specs.Refusals.{neverBroken, noVersion, outsideFlash, outsideWindow, flushOutside}
+use Rattle.refusals.specs.Refusals.{neverBroken, noVersion, outsideFlash, undefinedFlags, outsideWindow, flushOutside}
 use Rattle.mailbox.specs.Commands.{Outcome, alone, refused, closing, resetAnswer, informed, flashInformed, created, closed, dirtyAnswer, flushed, ackAnswer, erasedOutcome}
 
 -- a command: its code, the versions that know it, what it needs, whether its argument rule is broken (of the session, the registers and S), what a
@@ -62,7 +62,7 @@ createReadWindow = create 4 Read
 -- CLOSE_WINDOW
 abbrev pub closeWindow : Command
 closeWindow =
-    record { code = 5; known = from 1; needs = Access; broken = neverBroken; whenBroken = refused; leaves = λ setup. closed }
+    record { code = 5; known = from 1; needs = Access; broken = undefinedFlags; whenBroken = refused; leaves = λ setup. closed }
 
 -- CREATE_WRITE_WINDOW
 abbrev pub createWriteWindow : Command

@@ -9,6 +9,7 @@ use flush::flush_window;
 use refusals::Needs;
 use refusals::Reason;
 use refusals::reason_for;
+use refusals::undefined_flags;
 use registers::NO_ARGUMENTS;
 use registers::read_words;
 use session::Board;
@@ -51,14 +52,15 @@ pub(crate) fn reset(call: Call) -> Answer
     answer(next, registers, 1, NO_ARGUMENTS, 0)
 }
 
-// CLOSE_WINDOW: the window is flushed and dropped.
+// CLOSE_WINDOW: the window is flushed and dropped, if its flags are defined.
 pub(crate) fn close_window(known: bool, call: Call, flash: &mut [u8], memory: &[u8]) -> Answer
     ensures { λ r. ⌜ (known ≡ closeWindow .known (call .session .version)
         → outcome r (now (flash .exit)) (now (memory .entry)) ≡ obeyedBy closeWindow call (now (flash .entry)) (now (memory .entry))) ⌝ }
 {
     let session = call.session;
     let registers = call.registers;
-    let reason = reason_for(session, registers, known, Needs::Access, false);
+    let undefined = undefined_flags(session, registers);
+    let reason = reason_for(session, registers, known, Needs::Access, undefined);
     let Reason::Accepted = reason else {
         return refuse(call, reason);
     };

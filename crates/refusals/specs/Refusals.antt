@@ -52,6 +52,10 @@ noVersion s registers S = eqb (argument 0 registers) 0
 abbrev pub outsideFlash : Session → List ℕ → ℕ → Bool
 outsideFlash s registers S = leb S (number 2 0 registers)
 
+-- CLOSE_WINDOW: "From version 2 on only the flag values 0 and 1 are now allowed" (02, Ticket 7). Version 1 has no flags: the byte isn't looked at
+abbrev pub undefinedFlags : Session → List ℕ → ℕ → Bool
+undefinedFlags s registers S = leb 2 (s .version) && ltb 1 (argument 0 registers)
+
 -- MARK_DIRTY and ERASE: some of the blocks lie outside the window
 abbrev pub outsideWindow : Session → List ℕ → ℕ → Bool
 outsideWindow s registers S = not (blocksNamed s registers .inside)

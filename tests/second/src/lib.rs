@@ -1,7 +1,8 @@
 //! An independent second implementation of the controller's side of hiomap
 //! versions 1 and 2, written from document 01 and QUESTIONS.md alone, then
-//! brought to ticket 1 of 02, beside which only the event definitions and ACK
-//! of the source documents 000, 002 and 004 were read. No other ticket is in.
+//! brought to tickets 1 and 7 of 02, beside which only what the source documents
+//! 000, 002 and 004 say of events, ACK, windows and CLOSE was read. Ticket 5
+//! changes no answer. No other ticket is in.
 //! It is plain on purpose: it is there to be compared with.
 
 /// Bytes in a block, which is also the erase granule.
@@ -381,7 +382,7 @@ fn serve(
         GET_INFO => get_info(s, regs, window.len() / BLOCK, t),
         GET_FLASH_INFO => get_flash_info(s.version, flash.len() / BLOCK),
         CREATE_READ => create(s, Kind::Read, regs, b, flash, window),
-        CLOSE => close(s, flash, window),
+        CLOSE => close(s, regs, flash, window),
         CREATE_WRITE => create(s, Kind::Write, regs, b, flash, window),
         MARK_DIRTY => mark_dirty(s, regs),
         FLUSH => flush_command(s, regs, flash, window),
@@ -473,7 +474,13 @@ fn create_args(s: &Session, b: u16) -> [u8; 11] {
     args
 }
 
-fn close(s: &mut Session, flash: &mut [u8], window: &[u8]) -> Answer {
+/// From version 2 on the flags, argument 0, are 0 or 1, neither with an effect;
+/// any other value is refused before the flush, window or not (ticket 7).
+/// Version 1 has no flags and does not look at the byte.
+fn close(s: &mut Session, regs: &[u8; 16], flash: &mut [u8], window: &[u8]) -> Answer {
+    if s.version >= 2 && arg8(regs, 0) > 1 {
+        return refused(PARAM_ERROR);
+    }
     let actions = flush(s, flash, window);
     s.drop_window();
     done(actions)
@@ -1568,7 +1575,7 @@ flash 0 0 0 300
         let mut rig = Rig::open(2, Kind::Write, 1, 2);
         rig.window = pattern(2 * BLOCK, 55);
         rig.s.marks[1] = DIRTY;
-        assert_eq!(rig.code(CLOSE, &[0xFF]), SUCCESS);
+        assert_eq!(rig.code(CLOSE, &[1]), SUCCESS);
         assert_eq!(rig.actions, 17);
         assert!(block(&rig.flash, 2) == block(&rig.window, 1));
         assert_eq!(rig.s, Session { version: 2, previous: Some(1), ..Session::fresh() });
@@ -1886,6 +1893,86 @@ flash 0 0 0 300
         assert_eq!(named, line("01", "81") + &line("02", "80") + EMPTY_FLASH);
     }
 
+    // --------------------------------------------------------- 02, ticket 7
+
+    /// Without a window, with a read window, and with a marked write window.
+    fn to_be_closed(version: u8) -> [Rig; 3] {
+        let read = Rig::open(version, Kind::Read, 1, 2);
+        [Rig::new(version), read, with_events(version, 0x81, false)]
+    }
+
+    #[test]
+    fn close_flags_above_1_are_refused_at_version_2() {
+        for mut rig in to_be_closed(2) {
+            for flags in 2..=255 {
+                refuses(&mut rig, CLOSE, &[flags], PARAM_ERROR);
+                refuses(&mut rig, CLOSE, &[flags; 11], PARAM_ERROR);
+            }
+        }
+    }
+
+    /// 0 and 1 at version 2, any flags at version 1; no other argument counts.
+    #[test]
+    fn close_flags_allowed_have_no_effect() {
+        for (version, most) in [(2, 1), (1, 255)] {
+            for before in to_be_closed(version) {
+                let mut plain = before.clone();
+                let answer = plain.send(CLOSE, &[]);
+                assert_eq!(answer[13], SUCCESS);
+                assert_eq!(plain.actions, flush_actions(&before.s));
+                assert_eq!(plain.flash != before.flash, plain.actions > 0);
+                assert_eq!(plain.s.kind, Kind::Closed);
+                for flags in 0..=most {
+                    for rest in [0, 0xFF] {
+                        let mut args = [rest; 11];
+                        args[0] = flags;
+                        let mut rig = before.clone();
+                        assert_eq!(rig.send(CLOSE, &args), answer);
+                        assert!(rig == plain);
+                    }
+                }
+            }
+        }
+    }
+
+    #[test]
+    fn close_flags_are_looked_at_last() {
+        for mut rig in to_be_closed(2) {
+            rig.s.events = 0xC1;
+            rig.s.previous = Some(7);
+            assert_eq!(rig.raw(regs(CLOSE, 7, &[2]))[13], SYSTEM_ERROR);
+            assert_eq!(rig.raw(regs(CLOSE, 8, &[2]))[13], SYSTEM_ERROR);
+            assert_eq!(rig.s.previous, Some(7));
+            rig.s.suspended = true;
+            assert_eq!(rig.raw(regs(CLOSE, 7, &[2]))[13], SEQ_ERROR);
+            refuses(&mut rig, CLOSE, &[2], BUSY);
+            assert!(resume(&mut rig.s));
+            refuses(&mut rig, CLOSE, &[2], PARAM_ERROR);
+            let refused = rig.next.wrapping_sub(1);
+            assert_eq!(rig.raw(regs(CLOSE, refused, &[0]))[13], SEQ_ERROR);
+            assert_eq!(rig.code(CLOSE, &[0]), SUCCESS);
+        }
+    }
+
+    /// The refused close keeps the fill and the mark; the next one flushes them.
+    #[test]
+    fn ticket_7_at_the_bench() {
+        let text = bench_hex(
+            "00 03 02 01 02 00 03 06 02 03 01 00 AC 02 A5 01 00 05 07 03 00 00 01 \
+             00 03 05 04 03 00 03 05 05 01 00 03 05 06 02",
+        );
+        let lines = "\
+02 01 02 00 00 00 00 0C 08 00 00 00 00 01 00 81
+06 02 10 00 01 00 03 00 00 00 00 00 00 01 00 81
+07 03 00 00 00 00 00 00 00 00 00 00 00 01 00 81
+05 04 00 00 00 00 00 00 00 00 00 00 00 02 00 81
+05 05 00 00 00 00 00 00 00 00 00 00 00 01 00 81
+05 06 00 00 00 00 00 00 00 00 00 00 00 02 00 81
+flash 0 0 0 300
+";
+        assert_eq!(text, lines);
+    }
+
     // ---------------------------------------------------------------- bench
 
     #[test]
@@ -2127,7 +2214,8 @@ flash 0 0 0 300
             assert_eq!(after[2..13], [0; 11]);
         }
         let closes = matches!(sent[0], CREATE_READ | CREATE_WRITE | CLOSE);
-        let create_refused = closes && after[13] == PARAM_ERROR && rig.s.kind != before.s.kind;
+        let creates = closes && sent[0] != CLOSE;
+        let create_refused = creates && after[13] == PARAM_ERROR && rig.s.kind != before.s.kind;
         if closes && (after[13] == SUCCESS || create_refused) {
             assert!(rig.flash == stepped.flash);
             assert_eq!(u64::from(rig.actions), count);

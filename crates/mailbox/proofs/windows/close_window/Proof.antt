@@ -1,6 +1,8 @@
 -- `mailbox::windows::close_window` meets its contract.
 use mathlib.Core.Path.{refl, ap, _∙_}
 use borrow.Author.Needs.{needs}
+use lib.ListN.{length}
+use Rattle.units.specs.Units.{roundUp}
 use Rattle.session.specs.declared.Session.{Session}
 use Rattle.mailbox.specs.Commands.{closed}
 use Rattle.mailbox.specs.Table.{closeWindow}
@@ -9,6 +11,9 @@ use Rattle.mailbox.proofs.Mediating.{asked-as, accepted-by}
 use Rattle.mailbox.proofs.Refusing.{refused-left}
 use Rattle.mailbox.proofs.windows.close_window.Statement.{statement}
 use Rattle.mailbox.proofs.windows.close_window.Tie as tie
+
+undefined-flags-requires : tie.Need-undefined-flags-requires
+undefined-flags-requires c κs = search needs
 
 reason-for-requires : tie.Need-reason-for-requires
 reason-for-requires c κs = search needs
@@ -22,9 +27,9 @@ refuse-requires c κs = search needs
 returns : tie.Need-returns
 returns c = λ k.
     let asked = c .before .before in
-    let entered = asked .before .before .before .before .before in
+    let entered = asked .before .before .before .before .before .before in
     let call = entered .args .call in
-    let e = asked-as closeWindow (call .registers) (lent (call .session) (entered .args .flash .now) (entered .args .memory .now)) (asked .reason-for .ensures) k refl in
+    let e = asked-as closeWindow (call .registers) (lent (call .session) (entered .args .flash .now) (entered .args .memory .now)) (asked .reason-for .ensures) k (asked .before .undefined-flags .ensures (roundUp (length (entered .args .flash .now)))) in
     refused-left closeWindow (setUp (call .board)) (call .registers) (call .session) (entered .args .flash .now) (entered .args .memory .now) (asked .reason-for .result) (c .refuse .result) e (c .before .match .keys2) refl (c .refuse .ensures)
 
 with-number-requires : tie.Need-with-number-requires
@@ -40,9 +45,9 @@ returns-2 : tie.Need-returns-2
 returns-2 c = λ k.
     let told = c .before .before .before .before .before in
     let asked = told .before .before in
-    let entered = asked .before .before .before .before .before in
+    let entered = asked .before .before .before .before .before .before in
     let call = entered .args .call in
-    let e = asked-as closeWindow (call .registers) (lent (call .session) (entered .args .flash .now) (entered .args .memory .now)) (asked .reason-for .ensures) k refl in
+    let e = asked-as closeWindow (call .registers) (lent (call .session) (entered .args .flash .now) (entered .args .memory .now)) (asked .reason-for .ensures) k (asked .before .undefined-flags .ensures (roundUp (length (entered .args .flash .now)))) in
     c .before .before .close .ensures
     ∙ ap (λ (s : Session). closed (call .registers) (lent s (entered .args .flash .now) (entered .args .memory .now))) (c .before .before .before .before .with-number .ensures)
     ∙ accepted-by closeWindow (setUp (call .board)) (call .registers) (lent (call .session) (entered .args .flash .now) (entered .args .memory .now)) (asked .reason-for .result) e (told .enum-told .given .1)
@@ -51,6 +56,7 @@ pub close-window-spec : {M : Type 1} → statement M
 close-window-spec =
     tie.close
     (tie.spec
+    undefined-flags-requires
     reason-for-requires
     enum-told
     refuse-requires
