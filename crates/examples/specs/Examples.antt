@@ -422,11 +422,37 @@ example14 =
     ∷ command (9 ∷ 6 ∷ 0xff ∷ []) shows (refused 8 ∷ events 0xc1 ∷ [])
     ∷ []
 
+-- Ticket 7, "From version 2 on only the flag values 0 and 1 are now allowed": a close that is refused for its flags keeps a window of either kind, its mark,
+-- window memory and flash, and its number is the previous one; it is refused without a window too, and after the checks of the number and the suspension. 1
+-- closes as 0 does. Version 1 takes any byte
+abbrev pub example15 : Example
+example15 =
+    command (2 ∷ 1 ∷ 2 ∷ []) shows (version 2 ∷ [])
+    ∷ command (5 ∷ 2 ∷ 2 ∷ []) shows (refused 2 ∷ actions 0 ∷ window Closed 0 0 ∷ [])
+    ∷ command (5 ∷ 2 ∷ 1 ∷ []) shows (refused 8 ∷ [])
+    ∷ command (5 ∷ 3 ∷ 1 ∷ []) shows (code 1 ∷ arguments [] ∷ actions 0 ∷ window Closed 0 0 ∷ [])
+    ∷ command (4 ∷ 4 ∷ 2 ∷ 0 ∷ []) shows (window Read 2 2 ∷ [])
+    ∷ command (5 ∷ 5 ∷ 3 ∷ []) shows (refused 2 ∷ actions 0 ∷ window Read 2 2 ∷ [])
+    ∷ command (6 ∷ 6 ∷ 1 ∷ 0 ∷ []) shows (window Write 1 2 ∷ [])
+    ∷ write (blocks (0x3c ∷ 0x3c ∷ [])) shows []
+    ∷ command (7 ∷ 7 ∷ 1 ∷ 0 ∷ 1 ∷ 0 ∷ []) shows (marks (0 ∷ 1 ∷ []) ∷ [])
+    ∷ command (5 ∷ 8 ∷ 2 ∷ []) shows (refused 2 ∷ actions 0 ∷ window Write 1 2 ∷ marks (0 ∷ 1 ∷ []) ∷ memory (blocks (0x3c ∷ 0x3c ∷ [])) ∷ flash (start .machine .flash) ∷ [])
+    ∷ command (5 ∷ 9 ∷ 255 ∷ []) shows (refused 2 ∷ actions 0 ∷ window Write 1 2 ∷ marks (0 ∷ 1 ∷ []) ∷ memory (blocks (0x3c ∷ 0x3c ∷ [])) ∷ flash (start .machine .flash) ∷ [])
+    ∷ suspend shows []
+    ∷ command (5 ∷ 10 ∷ 2 ∷ []) shows (refused 6 ∷ [])
+    ∷ command (5 ∷ 10 ∷ 2 ∷ []) shows (refused 8 ∷ [])
+    ∷ resume shows []
+    ∷ command (5 ∷ 11 ∷ 1 ∷ []) shows (code 1 ∷ arguments [] ∷ actions 17 ∷ window Closed 0 0 ∷ marks [] ∷ flash (blocks (0xa0 ∷ 0xa1 ∷ 0x3c ∷ 0xa3 ∷ [])) ∷ [])
+    ∷ command (2 ∷ 12 ∷ 1 ∷ []) shows (version 1 ∷ [])
+    ∷ command (6 ∷ 13 ∷ 1 ∷ 0 ∷ []) shows (window Write 1 2 ∷ [])
+    ∷ command (5 ∷ 14 ∷ 2 ∷ []) shows (code 1 ∷ arguments [] ∷ actions 0 ∷ window Closed 0 0 ∷ [])
+    ∷ []
+
 -- the twelve, and those
 unfoldable pub examples : List Example
 examples =
     example1 ∷ example2 ∷ example3 ∷ example4 ∷ example5 ∷ example6 ∷ example7 ∷ example8 ∷ example9 ∷ example10 ∷ example11 ∷ example12
-    ∷ example13 ∷ example14
+    ∷ example13 ∷ example14 ∷ example15
     ∷ []
 
 -- "The twelve examples are proved from the definitions by a single statement over a single list": its proof is `all-hold`, in proofs/AllHold.antt

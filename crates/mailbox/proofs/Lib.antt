@@ -3,4 +3,4 @@ pub mod Front
 pub mod Lengths
 mod Marking
 pub mod Mediating
-mod Refusing
+pub mod Refusing
