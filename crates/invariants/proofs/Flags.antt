@@ -22,10 +22,9 @@ use Rattle.invariants.specs.Flags.{ReachesFlags, Allowed, FlagsAsSaid, F
 
 -- ---- the argument rule, by the flags
 passes : (version flags : ℕ) → Allowed version flags → (leb 2 version && ltb 1 flags) ≡ false
-passes version flags =
-    ⊎-elim
-    (λ (e : version < 2). rw (lt-leb 2 version e))
-    (⊎-elim (λ (e : flags ≡ 0). rw e (and-false (leb 2 version))) (λ (e : flags ≡ 1). rw e (and-false (leb 2 version))))
+passes version flags (inl e) = rw (lt-leb 2 version e)
+passes version flags (inr (inl e)) = rw e (and-false (leb 2 version))
+passes version flags (inr (inr e)) = rw e (and-false (leb 2 version))
 
 breaks : (version flags : ℕ) → (Allowed version flags → ⊥) → (leb 2 version && ltb 1 flags) ≡ true
 breaks version zero n = absurd (n (inr (inl refl)))

@@ -1,7 +1,7 @@
 -- What a refusal leaves: the claim stands in specs/Refused.antt.
 use mathlib.Core.Path.{_≡_, refl, sym, ap, _∙_}
 use mathlib.Core.List.{List}
-use mathlib.Core.Logic.{_⊎_, inl, inr, ⊎-elim}
+use mathlib.Core.Logic.{_⊎_, inl, inr}
 use Prim.Native.Nat.{ℕ}
 use Rattle.session.specs.Machine.{Setup, Machine}
 use Rattle.refusals.specs.declared.Reason.the-variants.{System, Argument}
@@ -27,7 +27,8 @@ module _ (setup : Setup) (registers : List ℕ) (m : Machine) where
 
   create-at : (code : ℕ) → (code ≡ 4) ⊎ (code ≡ 6) → commandAt code .whenBroken ≡ closing
   unfolding commandAt
-  create-at code = ⊎-elim (λ (e : code ≡ 4). rw e) (λ (e : code ≡ 6). rw e)
+  create-at code (inl e) = rw e
+  create-at code (inr e) = rw e
 
   broken-create : BrokenCreate (commandOf registers) (reasonIn setup registers m) → mediate setup registers m ≡ closing 2 registers (numberedIn registers m)
   unfolding answerTo
@@ -40,6 +41,6 @@ refusals-as-said setup registers m = (
   system setup registers m,
   broken-create setup registers m,
   λ a s b.
-  mediate-as setup registers m (reasonIn setup registers m) refl
-  ∙ sym (refused-as (reasonIn setup registers m) (commandIn registers) setup registers m a s (λ e. when-broken (commandOf registers) (λ c. b (c, e)))),
+      mediate-as setup registers m (reasonIn setup registers m) refl
+      ∙ sym (refused-as (reasonIn setup registers m) (commandIn registers) setup registers m a s (λ e. when-broken (commandOf registers) (λ c. b (c, e)))),
 )
