@@ -54,6 +54,13 @@ extern "C" {
 #define HIOMAP_ACK 9
 #define HIOMAP_ERASE 10
 
+/*
+ * The flags of CLOSE_WINDOW, its argument 0 from version 2 on: none, or the hint that the window will hardly be
+ * wanted again soon, which has no effect yet. Any other value is PARAM_ERROR, and the window stays as it is.
+ */
+#define HIOMAP_CLOSE_NO_FLAGS 0x00
+#define HIOMAP_CLOSE_SHORT_LIFETIME 0x01
+
 /* The responses. */
 #define HIOMAP_SUCCESS 1
 #define HIOMAP_PARAM_ERROR 2

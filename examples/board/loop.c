@@ -97,7 +97,7 @@ int main(void) {
     COMMAND(2, 1, 2);                 /* GET_INFO, version 2 */
     COMMAND(6, 2, 1, 0, 0, 0);        /* a write window at block 1, no hint: its 2 blocks are 1 and 2 */
     memset(memory, 0xA5, 300);        /* the host writes in the first window block, */
-    memory[HIOMAP_BLOCK_BYTES] = 0x5A; /* and in the second, which it never marks */
+    memory[HIOMAP_BLOCK_BYTES] = 0x5A; /* and in the second, which it marks later */
     COMMAND(7, 3, 0, 0, 1, 0);        /* MARK_DIRTY, the first window block */
     COMMAND(8, 4);                    /* FLUSH: an erase and 16 pages */
     print_flash();
@@ -123,14 +123,22 @@ int main(void) {
     print_flash();
     COMMAND(8, 8);                    /* the marks are still there: FLUSH does it again */
 
+    COMMAND(7, 9, 1, 0, 1, 0);        /* MARK_DIRTY, the second window block */
+    COMMAND(5, 10, 0x02);             /* CLOSE_WINDOW with undefined flags, PARAM_ERROR: nothing is flushed, */
+    print_flash();
+    COMMAND(5, 11, HIOMAP_CLOSE_SHORT_LIFETIME); /* and the window is still there for one with defined flags */
+    print_flash();
+    COMMAND(5, 12, 0x02);             /* the flags are looked at without a window too */
+    COMMAND(6, 13, 1, 0, 0, 0);       /* the same window again */
+
     change_access("suspend", hiomap_suspend);
     change_access("resume changed", hiomap_resume_changed);
-    COMMAND(8, 9);                    /* WINDOW_ERROR: the window was dropped */
-    COMMAND(9, 10, 2);                /* ACK, window reset */
+    COMMAND(8, 14);                   /* WINDOW_ERROR: the window was dropped */
+    COMMAND(9, 15, 2);                /* ACK, window reset */
 
     session.window = 7;               /* a damaged record: SYSTEM_ERROR, and it stays as it is */
     hiomap_record before = session;
-    COMMAND(2, 11, 2);
+    COMMAND(2, 16, 2);
     printf("kept %s\n", yes(memcmp(&before, &session, sizeof session) == 0));
     hiomap_stepped broken = step(0);
     printf("step %u %s\n", broken.code, yes(broken.acted));
@@ -139,11 +147,11 @@ int main(void) {
     change_access("resume changed", hiomap_resume_changed);
     printf("window %u\n", session.window);
     session.suspended = 2;            /* a flag above 1 is not sound either; a resume takes it for yes */
-    COMMAND(2, 12, 2);
+    COMMAND(2, 17, 2);
     change_access("resume", hiomap_resume);
     printf("suspended %u\n", session.suspended);
     session.events |= HIOMAP_EVENT_FLASH_CONTROL_LOST; /* nor is 0x40 without a suspension; no command mends it, */
-    COMMAND(2, 13, 2);
+    COMMAND(2, 18, 2);
     change_access("resume", hiomap_resume);
     change_access("suspend", hiomap_suspend); /* a suspend does, or a fresh record */
     change_access("resume", hiomap_resume);

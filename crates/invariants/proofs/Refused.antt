@@ -20,15 +20,15 @@ when-broken =
     (λ _. refl) (λ _. refl) (λ _. refl) (λ other. absurd (other (inl refl))) (λ _. refl) (λ other. absurd (other (inr refl)))
     (λ _. refl) (λ _. refl) (λ _. refl) (λ _. refl) (λ _ _. refl)
 
+create-at : (code : ℕ) → (code ≡ 4) ⊎ (code ≡ 6) → commandAt code .whenBroken ≡ closing
+unfolding commandAt
+create-at code (inl e) = rw e
+create-at code (inr e) = rw e
+
 module _ (setup : Setup) (registers : List ℕ) (m : Machine) where
   system : reasonIn setup registers m ≡ System → mediate setup registers m ≡ refused 4 registers m
   unfolding answerTo
   system e = mediate-as setup registers m System e
-
-  create-at : (code : ℕ) → (code ≡ 4) ⊎ (code ≡ 6) → commandAt code .whenBroken ≡ closing
-  unfolding commandAt
-  create-at code (inl e) = rw e
-  create-at code (inr e) = rw e
 
   broken-create : BrokenCreate (commandOf registers) (reasonIn setup registers m) → mediate setup registers m ≡ closing 2 registers (numberedIn registers m)
   unfolding answerTo

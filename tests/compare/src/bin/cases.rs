@@ -186,7 +186,7 @@ fn edges(side: Side) {
                 cases.push((code, vec![first, hint]));
             }
         }
-        cases.push((5, vec![1]));
+        cases.extend([0, 1, 2, 3, 128, 255, 256, 257, 258].map(|flags| (5, vec![flags])));
         cases.extend(ranges(version).into_iter().flat_map(|range| [7, 8, 10].map(|code| (code, range.clone()))));
         cases.extend([0, 1, 2, 4, 0x40, 0x80, 0xfe, 0xff].map(|bits| (9, vec![bits])));
         for (code, arguments) in cases {
@@ -194,6 +194,21 @@ fn edges(side: Side) {
             m.session.marks[1] = 1;
             print_command(&mut m, code, &arguments);
             println!("    flash {} memory {}", bytes_text(&m.flash), bytes_text(&m.memory));
+        }
+    }
+}
+
+/// CLOSE_WINDOW with every value of its flags, at each version, with each window: the values that get one answer, and the answer as in `refusals`.
+fn flags(side: Side) {
+    for version in 0..3 {
+        for kind in [Kind::Closed, Kind::Read, Kind::Write] {
+            let answers: Vec<String> = (0..256).map(|flags| refusal(side, (version, kind, false), 5, 1, flags)).collect();
+            let mut from = 0;
+            let runs = answers.chunk_by(|a, b| a == b).map(|run| {
+                from += run.len();
+                format!("{} to {}: {}", from - run.len(), from - 1, run[0])
+            });
+            println!("version {version} window {kind:?}, flags {}", runs.collect::<Vec<_>>().join(", "));
         }
     }
 }
@@ -390,6 +405,7 @@ fn main() {
     match arguments.get(1).map(String::as_str) {
         Some("refusals") => refusals(side),
         Some("edges") => edges(side),
+        Some("flags") => flags(side),
         Some("unsound") => unsound(side),
         Some("suspensions") => suspensions(side),
         Some("events") => events(side),

@@ -85,6 +85,10 @@ fn registers(r: &mut Random, previous: u8) -> [u8; 16] {
         let length = (r.below(4) as u32) * 4096 + r.below(3) as u32;
         registers[4..8].copy_from_slice(&length.to_le_bytes());
     }
+    if registers[0] == 5 && r.once_in(2) {
+        // flags of CLOSE_WINDOW: those that are defined, and the first that are not
+        registers[2] = r.below(4) as u8;
+    }
     registers
 }
 
