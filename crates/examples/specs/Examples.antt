@@ -357,14 +357,18 @@ example12 =
 
 -- ---- what the change requests add
 
--- Ticket 5, the commands beside the published table: the codes that the twelve leave out. Version 0 knows 1, 2 and 9; version 1 has the flash of
--- 0x4000 bytes and its granule of 0x1000, and not 10; RESET drops a marked window without a flush, CLOSE_WINDOW flushes it; while suspended RESET
--- is refused, and ACK is served and may not repeat its number
+-- Ticket 5, the commands beside the published table: the codes that the twelve leave out. Version 0 knows 1, 2 and 9, and answers 2 to a number again and 5
+-- while suspended; version 1 has the flash of 0x4000 bytes and its granule of 0x1000, and not 10; RESET drops a marked window without a flush, CLOSE_WINDOW
+-- flushes it; while suspended RESET is refused, and ACK is served and may not repeat its number
 abbrev pub example13 : Example
 example13 =
     command (3 ∷ 1 ∷ []) shows (refused 2 ∷ [])
     ∷ command (10 ∷ 2 ∷ []) shows (refused 2 ∷ [])
     ∷ command (1 ∷ 3 ∷ []) shows (code 1 ∷ arguments [] ∷ events 0x81 ∷ [])
+    ∷ command (1 ∷ 3 ∷ []) shows (refused 2 ∷ [])
+    ∷ suspend shows []
+    ∷ command (1 ∷ 21 ∷ []) shows (refused 5 ∷ [])
+    ∷ resume shows []
     ∷ command (9 ∷ 4 ∷ 0x01 ∷ []) shows (code 1 ∷ arguments [] ∷ events 0x80 ∷ [])
     ∷ command (2 ∷ 5 ∷ 1 ∷ []) shows (version 1 ∷ [])
     ∷ command (3 ∷ 6 ∷ []) shows (code 1 ∷ arguments (0x00 ∷ 0x40 ∷ 0 ∷ 0 ∷ 0x00 ∷ 0x10 ∷ 0 ∷ 0 ∷ []) ∷ [])
@@ -423,8 +427,8 @@ example14 =
     ∷ []
 
 -- Ticket 7, "From version 2 on only the flag values 0 and 1 are now allowed": a close that is refused for its flags keeps a window of either kind, its mark,
--- window memory and flash, and its number is the previous one; it is refused without a window too, and after the checks of the number and the suspension. 1
--- closes as 0 does. Version 1 takes any byte
+-- window memory and flash, and its number is the previous one; it is refused without a window too, and after the checks of the number and of the
+-- suspension. 0 and 1 close. At version 1 a 2 closes
 abbrev pub example15 : Example
 example15 =
     command (2 ∷ 1 ∷ 2 ∷ []) shows (version 2 ∷ [])
@@ -432,20 +436,23 @@ example15 =
     ∷ command (5 ∷ 2 ∷ 1 ∷ []) shows (refused 8 ∷ [])
     ∷ command (5 ∷ 3 ∷ 1 ∷ []) shows (code 1 ∷ arguments [] ∷ actions 0 ∷ window Closed 0 0 ∷ [])
     ∷ command (4 ∷ 4 ∷ 2 ∷ 0 ∷ []) shows (window Read 2 2 ∷ [])
-    ∷ command (5 ∷ 5 ∷ 3 ∷ []) shows (refused 2 ∷ actions 0 ∷ window Read 2 2 ∷ [])
-    ∷ command (6 ∷ 6 ∷ 1 ∷ 0 ∷ []) shows (window Write 1 2 ∷ [])
+    ∷ command (5 ∷ 5 ∷ 3 ∷ []) shows (refused 2 ∷ actions 0 ∷ window Read 2 2 ∷ memory (blocks (0xa2 ∷ 0xa3 ∷ [])) ∷ flash (start .machine .flash) ∷ [])
+    ∷ command (5 ∷ 6 ∷ 0 ∷ []) shows (code 1 ∷ arguments [] ∷ actions 0 ∷ window Closed 0 0 ∷ [])
+    ∷ command (6 ∷ 7 ∷ 1 ∷ 0 ∷ []) shows (window Write 1 2 ∷ [])
     ∷ write (blocks (0x3c ∷ 0x3c ∷ [])) shows []
-    ∷ command (7 ∷ 7 ∷ 1 ∷ 0 ∷ 1 ∷ 0 ∷ []) shows (marks (0 ∷ 1 ∷ []) ∷ [])
-    ∷ command (5 ∷ 8 ∷ 2 ∷ []) shows (refused 2 ∷ actions 0 ∷ window Write 1 2 ∷ marks (0 ∷ 1 ∷ []) ∷ memory (blocks (0x3c ∷ 0x3c ∷ [])) ∷ flash (start .machine .flash) ∷ [])
-    ∷ command (5 ∷ 9 ∷ 255 ∷ []) shows (refused 2 ∷ actions 0 ∷ window Write 1 2 ∷ marks (0 ∷ 1 ∷ []) ∷ memory (blocks (0x3c ∷ 0x3c ∷ [])) ∷ flash (start .machine .flash) ∷ [])
+    ∷ command (7 ∷ 8 ∷ 1 ∷ 0 ∷ 1 ∷ 0 ∷ []) shows (marks (0 ∷ 1 ∷ []) ∷ [])
+    ∷ command (5 ∷ 9 ∷ 2 ∷ []) shows (refused 2 ∷ actions 0 ∷ window Write 1 2 ∷ marks (0 ∷ 1 ∷ []) ∷ memory (blocks (0x3c ∷ 0x3c ∷ [])) ∷ flash (start .machine .flash) ∷ [])
+    ∷ command (5 ∷ 10 ∷ 255 ∷ []) shows (refused 2 ∷ actions 0 ∷ window Write 1 2 ∷ marks (0 ∷ 1 ∷ []) ∷ memory (blocks (0x3c ∷ 0x3c ∷ [])) ∷ flash (start .machine .flash) ∷ [])
     ∷ suspend shows []
-    ∷ command (5 ∷ 10 ∷ 2 ∷ []) shows (refused 6 ∷ [])
-    ∷ command (5 ∷ 10 ∷ 2 ∷ []) shows (refused 8 ∷ [])
+    ∷ command (5 ∷ 11 ∷ 2 ∷ []) shows (refused 6 ∷ [])
+    ∷ command (5 ∷ 11 ∷ 2 ∷ []) shows (refused 8 ∷ [])
     ∷ resume shows []
-    ∷ command (5 ∷ 11 ∷ 1 ∷ []) shows (code 1 ∷ arguments [] ∷ actions 17 ∷ window Closed 0 0 ∷ marks [] ∷ flash (blocks (0xa0 ∷ 0xa1 ∷ 0x3c ∷ 0xa3 ∷ [])) ∷ [])
-    ∷ command (2 ∷ 12 ∷ 1 ∷ []) shows (version 1 ∷ [])
-    ∷ command (6 ∷ 13 ∷ 1 ∷ 0 ∷ []) shows (window Write 1 2 ∷ [])
-    ∷ command (5 ∷ 14 ∷ 2 ∷ []) shows (code 1 ∷ arguments [] ∷ actions 0 ∷ window Closed 0 0 ∷ [])
+    ∷ command (5 ∷ 12 ∷ 1 ∷ []) shows (code 1 ∷ arguments [] ∷ actions 17 ∷ window Closed 0 0 ∷ marks [] ∷ flash (blocks (0xa0 ∷ 0xa1 ∷ 0x3c ∷ 0xa3 ∷ [])) ∷ [])
+    ∷ command (2 ∷ 13 ∷ 1 ∷ []) shows (version 1 ∷ [])
+    ∷ command (6 ∷ 14 ∷ 0 ∷ 0 ∷ []) shows (window Write 0 2 ∷ [])
+    ∷ write (blocks (0x5a ∷ 0x5a ∷ [])) shows []
+    ∷ command (7 ∷ 15 ∷ 0 ∷ 0 ∷ 1 ∷ 0 ∷ []) shows (marks (1 ∷ []) ∷ [])
+    ∷ command (5 ∷ 16 ∷ 2 ∷ []) shows (code 1 ∷ arguments [] ∷ actions 17 ∷ window Closed 0 0 ∷ marks [] ∷ flash (blocks (0x5a ∷ 0xa1 ∷ 0x3c ∷ 0xa3 ∷ [])) ∷ [])
     ∷ []
 
 -- the twelve, and those

@@ -1,78 +1,107 @@
 -- What the flags of CLOSE_WINDOW do: the claims stand in specs/Flags.antt.
 use mathlib.Core.Path.{_≡_, refl, ap, _∙_}
-use mathlib.Core.Bool.{true, false, _&&_, and-false}
+use mathlib.Core.Bool.{Bool, true, false, cond, not, _&&_, and-false}
 use mathlib.Core.List.{List, _∷_}
-use mathlib.Core.Logic.{_⊎_, inl, inr, ⊎-elim}
-use Prim.Native.Nat.{ℕ, zero, suc, _≤_, _<_}
-use native.Mathlib.Omega.{arith}
+use mathlib.Core.Logic.{_⊎_, inl, inr}
+use Prim.Native.Nat.{ℕ, _≤_, _<_}
 use lib.Dec.{leb, ltb}
-use borrow.Author.Tests.{lt-ltb, le-leb, lt-leb}
+use borrow.Author.Tests.{leb-true, lt-ltb, le-ltb, le-leb, lt-leb}
 use Rattle.units.proofs.Cases.{below-or}
 use Rattle.session.specs.Machine.{Setup, Machine}
 use Rattle.soundness.specs.Soundness.{soundIn}
 use Rattle.refusals.specs.declared.Reason.{Reason}
 use Rattle.refusals.specs.declared.Reason.the-variants.{Accepted, System, Repeated, Unknown, Suspended, Windowless, Argument}
-use Rattle.refusals.specs.Refusals.{reasonFor}
+use Rattle.refusals.specs.Refusals.{isPrevious, reasonFor}
 use Rattle.registers.specs.Registers.{argument}
-use Rattle.mailbox.specs.Commands.{numberedIn, refused, closing}
+use Rattle.mailbox.specs.Commands.{numberedIn, closing}
 use Rattle.mailbox.specs.Table.{closeWindow}
 use Rattle.mailbox.specs.Mediator.{commandAt, reasonOf, reasonIn, answerTo, obeyed, mediate}
 use Rattle.mailbox.proofs.Mediating.{mediate-as, carried}
-use Rattle.invariants.specs.Flags.{ReachesFlags, Allowed, FlagsAsSaid, FlagsWithoutEffect}
+use Rattle.invariants.specs.Flags.{ReachesFlags, Allowed, FlagsAsSaid, FlagsLast, FlagsWithoutEffect}
+use Rattle.invariants.specs.Refused.{numberTaken}
 
 -- ---- the argument rule, by the flags
 passes : (version flags : ℕ) → Allowed version flags → (leb 2 version && ltb 1 flags) ≡ false
 passes version flags (inl e) = rw (lt-leb 2 version e)
-passes version flags (inr (inl e)) = rw e (and-false (leb 2 version))
-passes version flags (inr (inr e)) = rw e (and-false (leb 2 version))
+passes version flags (inr e) = rw (le-ltb 1 flags e) (and-false (leb 2 version))
 
 breaks : (version flags : ℕ) → (Allowed version flags → ⊥) → (leb 2 version && ltb 1 flags) ≡ true
-breaks version zero n = absurd (n (inr (inl refl)))
-breaks version (suc zero) n = absurd (n (inr (inr refl)))
-breaks version (suc (suc flags)) n =
-    ⊎-elim
-    (λ (e : version < 2). absurd (n (inl e)))
-    (λ (e : 2 ≤ version). rw (le-leb 2 version e, lt-ltb 1 (suc (suc flags)) (omega arith)))
-    (below-or version 2)
+breaks version flags n = above (below-or version 2) (below-or 1 flags)
+  where
+    above : (version < 2) ⊎ (2 ≤ version) → (1 < flags) ⊎ (flags ≤ 1) → (leb 2 version && ltb 1 flags) ≡ true
+    above (inl v) f = absurd (n (inl v))
+    above (inr v) (inl f) = rw (le-leb 2 version v, lt-ltb 1 flags f)
+    above (inr v) (inr f) = absurd (n (inr f))
 
 -- ---- a CLOSE_WINDOW that comes to the last check
 module _ (setup : Setup) (registers : List ℕ) (m : Machine) (r : ReachesFlags setup registers m) where
   accepted : Allowed (m .session .version) (argument 0 registers) → reasonIn setup registers m ≡ Accepted
   unfolding commandAt reasonFor
-  accepted a = rw (r .closes, r .sound, r .new, le-leb 1 (m .session .version) (r .known), r .awake, passes (m .session .version) (argument 0 registers) a)
+  accepted a = rw (r .is-close, r .sound, r .new, le-leb 1 (m .session .version) (r .known), r .awake, passes (m .session .version) (argument 0 registers) a)
 
   broken : (Allowed (m .session .version) (argument 0 registers) → ⊥) → reasonIn setup registers m ≡ Argument
   unfolding commandAt reasonFor
-  broken a = rw (r .closes, r .sound, r .new, le-leb 1 (m .session .version) (r .known), r .awake, breaks (m .session .version) (argument 0 registers) a)
+  broken a = rw (r .is-close, r .sound, r .new, le-leb 1 (m .session .version) (r .known), r .awake, breaks (m .session .version) (argument 0 registers) a)
 
   closed-by : Allowed (m .session .version) (argument 0 registers) → mediate setup registers m ≡ closing 1 registers (numberedIn registers m)
   unfolding commandAt
-  closed-by a = carried setup registers m 5 (r .closes) (accepted a)
+  closed-by a = carried setup registers m 5 (r .is-close) (accepted a)
 
-  refused-by : (Allowed (m .session .version) (argument 0 registers) → ⊥) → mediate setup registers m ≡ refused 2 registers (numberedIn registers m)
+  refused-by : (Allowed (m .session .version) (argument 0 registers) → ⊥) → mediate setup registers m ≡ numberTaken 2 registers m
   unfolding commandAt answerTo
   refused-by a =
       mediate-as setup registers m Argument (broken a)
-      ∙ ap (λ (n : ℕ). commandAt n .whenBroken 2 registers (numberedIn registers m)) (r .closes)
+      ∙ ap (λ (n : ℕ). commandAt n .whenBroken 2 registers (numberedIn registers m)) (r .is-close)
 
 pub flags-as-said : FlagsAsSaid
 flags-as-said setup registers m r = (closed-by setup registers m r, refused-by setup registers m r)
 
--- ---- two that differ in their flags
-pub flags-without-effect : FlagsWithoutEffect
-unfolding mediate obeyed commandAt reasonFor answerTo
-flags-without-effect setup sequence flags others rest m a b =
-    ap (λ (q : Reason). answerTo q closeWindow setup (5 ∷ sequence ∷ flags ∷ rest) m) same
-    ∙ left (reasonOf closeWindow (soundIn setup m) (5 ∷ sequence ∷ others ∷ rest) m)
-  where
-    same : reasonOf closeWindow (soundIn setup m) (5 ∷ sequence ∷ flags ∷ rest) m ≡ reasonOf closeWindow (soundIn setup m) (5 ∷ sequence ∷ others ∷ rest) m
-    same = rw (passes (m .session .version) flags a, passes (m .session .version) others b)
+-- ---- where a check before the last refuses, the last has no part
+early : (sound repeated known asleep : Bool) (x y : Reason) → (sound ≡ true → repeated ≡ false → known ≡ true → asleep ≡ false → ⊥)
+    → cond (not sound) System (cond repeated Repeated (cond (not known) Unknown (cond asleep Suspended x)))
+    ≡ cond (not sound) System (cond repeated Repeated (cond (not known) Unknown (cond asleep Suspended y)))
+early false repeated known asleep x y n = refl
+early true true known asleep x y n = refl
+early true false false asleep x y n = refl
+early true false true true x y n = refl
+early true false true false x y n = absurd (n refl refl refl refl)
 
-    left : (q : Reason) → answerTo q closeWindow setup (5 ∷ sequence ∷ flags ∷ rest) m ≡ answerTo q closeWindow setup (5 ∷ sequence ∷ others ∷ rest) m
-    left Accepted = refl
-    left System = refl
-    left Repeated = refl
-    left Unknown = refl
-    left Suspended = refl
-    left Windowless = refl
-    left Argument = refl
+-- ---- two that differ in their flags alone, and are refused alike or not at all
+module _ (setup : Setup) (sequence flags otherFlags : ℕ) (rest : List ℕ) (m : Machine) where
+  abbrev Same : Type 0
+  Same =
+      reasonOf closeWindow (soundIn setup m) (5 ∷ sequence ∷ flags ∷ rest) m
+      ≡ reasonOf closeWindow (soundIn setup m) (5 ∷ sequence ∷ otherFlags ∷ rest) m
+
+  alike : (q : Reason) → answerTo q closeWindow setup (5 ∷ sequence ∷ flags ∷ rest) m ≡ answerTo q closeWindow setup (5 ∷ sequence ∷ otherFlags ∷ rest) m
+  unfolding answerTo
+  alike Accepted = refl
+  alike System = refl
+  alike Repeated = refl
+  alike Unknown = refl
+  alike Suspended = refl
+  alike Windowless = refl
+  alike Argument = refl
+
+  same-left : Same → mediate setup (5 ∷ sequence ∷ flags ∷ rest) m ≡ mediate setup (5 ∷ sequence ∷ otherFlags ∷ rest) m
+  unfolding mediate obeyed commandAt
+  same-left e =
+      ap (λ (q : Reason). answerTo q closeWindow setup (5 ∷ sequence ∷ flags ∷ rest) m) e
+      ∙ alike (reasonOf closeWindow (soundIn setup m) (5 ∷ sequence ∷ otherFlags ∷ rest) m)
+
+  same-allowed : Allowed (m .session .version) flags → Allowed (m .session .version) otherFlags → Same
+  unfolding reasonFor
+  same-allowed a b = rw (passes (m .session .version) flags a, passes (m .session .version) otherFlags b)
+
+  same-early : (ReachesFlags setup (5 ∷ sequence ∷ flags ∷ rest) m → ⊥) → Same
+  unfolding reasonFor
+  same-early n =
+      early (soundIn setup m) (isPrevious (m .session .previous) sequence) (leb 1 (m .session .version)) (m .session .suspended) _ _
+      (λ sound new known awake. n (record { is-close = refl; sound = sound; new = new; known = leb-true 1 (m .session .version) known; awake = awake }))
+
+pub flags-last : FlagsLast
+flags-last setup sequence flags otherFlags rest m n = same-left setup sequence flags otherFlags rest m (same-early setup sequence flags otherFlags rest m n)
+
+pub flags-without-effect : FlagsWithoutEffect
+flags-without-effect setup sequence flags otherFlags rest m a b =
+    same-left setup sequence flags otherFlags rest m (same-allowed setup sequence flags otherFlags rest m a b)

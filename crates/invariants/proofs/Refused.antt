@@ -1,8 +1,12 @@
 -- What a refusal leaves: the claim stands in specs/Refused.antt.
 use mathlib.Core.Path.{_≡_, refl, sym, ap, _∙_}
+use mathlib.Core.Bool.{true, false, _||_, true≢false}
 use mathlib.Core.List.{List}
-use mathlib.Core.Logic.{_⊎_, inl, inr}
+use mathlib.Core.Logic.{_⊎_, inl, inr, ⊎-elim}
 use Prim.Native.Nat.{ℕ}
+use lib.Dec.{eqb}
+use borrow.Author.Tests.{eqb-true}
+use Rattle.units.proofs.Cases.{decided}
 use Rattle.session.specs.Machine.{Setup, Machine}
 use Rattle.refusals.specs.declared.Reason.the-variants.{System, Argument}
 use Rattle.registers.specs.Registers.{commandOf}
@@ -11,36 +15,49 @@ use Rattle.mailbox.specs.Table.{Command}
 use Rattle.mailbox.specs.Mediator.{commandAt, commandIn, reasonIn, answerTo, mediate}
 use Rattle.mailbox.proofs.Mediating.{mediate-as, each-command}
 use Rattle.mailbox.proofs.Refusing.{refused-as}
-use Rattle.invariants.specs.Refused.{BrokenCreate, RefusalsAsSaid}
+use Rattle.invariants.specs.Refused.{refusal, creates, RefusalsAsSaid}
 
--- what is left by a refusal for its argument, by the row
-when-broken : (code : ℕ) → ((code ≡ 4) ⊎ (code ≡ 6) → ⊥) → commandAt code .whenBroken ≡ refused
+-- ---- what is left by a refusal for its argument, by the row
+when-broken : (code : ℕ) → creates code ≡ false → commandAt code .whenBroken ≡ refused
 when-broken =
-    each-command (λ (n : ℕ) (c : Command). ((n ≡ 4) ⊎ (n ≡ 6) → ⊥) → c .whenBroken ≡ refused)
-    (λ _. refl) (λ _. refl) (λ _. refl) (λ other. absurd (other (inl refl))) (λ _. refl) (λ other. absurd (other (inr refl)))
-    (λ _. refl) (λ _. refl) (λ _. refl) (λ _. refl) (λ _ _. refl)
+    each-command (λ (n : ℕ) (c : Command). creates n ≡ false → c .whenBroken ≡ refused)
+    (λ _. refl) (λ _. refl) (λ _. refl) (λ e. absurd (true≢false e)) (λ _. refl) (λ e. absurd (true≢false e)) (λ _. refl) (λ _. refl) (λ _. refl) (λ _. refl)
+    (λ _ _. refl)
 
-create-at : (code : ℕ) → (code ≡ 4) ⊎ (code ≡ 6) → commandAt code .whenBroken ≡ closing
+either : (code : ℕ) → creates code ≡ true → (code ≡ 4) ⊎ (code ≡ 6)
+either code e =
+    ⊎-elim
+    (λ (t : eqb code 4 ≡ true). inl (eqb-true code 4 t))
+    (λ (t : eqb code 4 ≡ false). inr (eqb-true code 6 (rw t at e)))
+    (decided (eqb code 4))
+
+closes-at : (code : ℕ) → (code ≡ 4) ⊎ (code ≡ 6) → commandAt code .whenBroken ≡ closing
 unfolding commandAt
-create-at code (inl e) = rw e
-create-at code (inr e) = rw e
+closes-at code (inl e) = rw e
+closes-at code (inr e) = rw e
 
 module _ (setup : Setup) (registers : List ℕ) (m : Machine) where
-  system : reasonIn setup registers m ≡ System → mediate setup registers m ≡ refused 4 registers m
+  system : reasonIn setup registers m ≡ System → mediate setup registers m ≡ refusal 4 (m .session) registers m
   unfolding answerTo
   system e = mediate-as setup registers m System e
 
-  broken-create : BrokenCreate (commandOf registers) (reasonIn setup registers m) → mediate setup registers m ≡ closing 2 registers (numberedIn registers m)
+  broken-create : creates (commandOf registers) ≡ true → reasonIn setup registers m ≡ Argument
+      → mediate setup registers m ≡ closing 2 registers (numberedIn registers m)
   unfolding answerTo
-  broken-create b =
-      mediate-as setup registers m Argument (b .1)
-      ∙ ap (λ (f : ℕ → List ℕ → Machine → Outcome). f 2 registers (numberedIn registers m)) (create-at (commandOf registers) (b .0))
+  broken-create c e =
+      mediate-as setup registers m Argument e
+      ∙ ap (λ (f : ℕ → List ℕ → Machine → Outcome). f 2 registers (numberedIn registers m)) (closes-at (commandOf registers) (either (commandOf registers) c))
+
+  broken-alone : (creates (commandOf registers) ≡ true → reasonIn setup registers m ≡ Argument → ⊥) → reasonIn setup registers m ≡ Argument
+      → commandIn registers .whenBroken ≡ refused
+  broken-alone n e =
+      ⊎-elim (λ t. absurd (n t e)) (λ t. when-broken (commandOf registers) t) (decided (creates (commandOf registers)))
 
 pub refusals-as-said : RefusalsAsSaid
 refusals-as-said setup registers m = (
   system setup registers m,
   broken-create setup registers m,
-  λ a s b.
+  λ a s n.
       mediate-as setup registers m (reasonIn setup registers m) refl
-      ∙ sym (refused-as (reasonIn setup registers m) (commandIn registers) setup registers m a s (λ e. when-broken (commandOf registers) (λ c. b (c, e)))),
+      ∙ sym (refused-as (reasonIn setup registers m) (commandIn registers) setup registers m a s (broken-alone setup registers m n)),
 )

@@ -1,9 +1,11 @@
 -- What document 01 says of commands by their codes, with its own numbers, is what the rows of the table say. Proved in proofs/Codes.antt.
 use mathlib.Core.Path.{_≡_}
 use mathlib.Core.Bool.{Bool, cond, not, _&&_, _||_}
+use mathlib.Core.List.{List}
 use Prim.Native.Nat.{ℕ}
 use lib.Dec.{leb, eqb}
-use Rattle.refusals.specs.Refusals.{needsNumber, needsAccess, needsWindow}
+use Rattle.session.specs.declared.Session.{Session}
+use Rattle.refusals.specs.Refusals.{neverBroken, noVersion, outsideFlash, undefinedFlags, outsideWindow, flushOutside, needsNumber, needsAccess, needsWindow}
 use Rattle.mailbox.specs.Mediator.{commandAt}
 
 -- "Version 0 knows 1, 2 and 9; version 1 knows 1 to 9; version 2 knows 1 to 10"
@@ -11,8 +13,15 @@ abbrev pub knows : ℕ → ℕ → Bool
 knows version code =
     cond (eqb version 0) (eqb code 1 || (eqb code 2 || eqb code 9)) (leb 1 code && leb code (cond (eqb version 1) 9 10))
 
+-- the argument rules: GET_INFO (2), a create (4, 6), CLOSE_WINDOW (5), MARK_DIRTY and ERASE (7, 10), FLUSH (8); no other command has one
+abbrev pub ruleOf : ℕ → Session → List ℕ → ℕ → Bool
+ruleOf code =
+    cond (eqb code 2) noVersion
+    (cond (eqb code 4 || eqb code 6) outsideFlash
+    (cond (eqb code 5) undefinedFlags (cond (eqb code 7 || eqb code 10) outsideWindow (cond (eqb code 8) flushOutside neverBroken))))
+
 -- the claim, of every code: which versions know it, "the sequence equals the previous one, not GET_INFO" (2), "suspended and not GET_INFO or ACK"
--- (9), "MARK_DIRTY, ERASE or FLUSH" (7, 10, 8) "without an active write window"
+-- (9), "MARK_DIRTY, ERASE or FLUSH" (7, 10, 8) "without an active write window", and its argument rule
 abbrev pub CodesAsSaid : Type 0
 CodesAsSaid =
     (code : ℕ)
@@ -20,3 +29,4 @@ CodesAsSaid =
     × (needsNumber (commandAt code .needs) ≡ not (eqb code 2))
     × (needsAccess (commandAt code .needs) ≡ not (eqb code 2 || eqb code 9))
     × (needsWindow (commandAt code .needs) ≡ (eqb code 7 || (eqb code 8 || eqb code 10)))
+    × (commandAt code .broken ≡ ruleOf code)

@@ -36,8 +36,8 @@ AccessKeeps =
     × (soundAt setup flash memory (resumed s .session) ≡ true)
     × (soundAt setup flash memory (resumedChanged s .session) ≡ true)
 
--- what a command flushes is sound, so that the flush always does its actions: the window that a close or a create closes, also one that is then refused
--- for its argument, and that of an accepted FLUSH with its own marks
+-- what a command flushes is sound, so that the flush always does its actions: the window that a close or a create closes, a create also where it is then
+-- refused for its argument, and that of an accepted FLUSH with its own marks
 abbrev pub FlushSound : Type 0
 FlushSound =
     (setup : Setup) (registers : List ℕ) (m : Machine) → (reasonIn setup registers m ≡ System → ⊥)

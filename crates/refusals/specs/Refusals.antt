@@ -1,4 +1,4 @@
--- When a command is refused, and with which code: document 01, the table of "Registers", and the argument rules of "Commands".
+-- When a command is refused, and with which code: document 01, the table of "Registers", and the argument rules of "Commands" and of 02, Ticket 7.
 use Prim.Native.Nat.{ℕ, _+_, _-_}
 use mathlib.Core.Bool.{Bool, true, false, cond, not, _&&_}
 use mathlib.Core.List.{List, [], _∷_}
