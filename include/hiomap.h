@@ -13,7 +13,7 @@
  *   - no two of the things that one call borrows overlap (record, registers, flash, window memory), and
  *     nobody else writes to them during the call: an interrupt or another thread must wait. The window
  *     memory is written by the host between the calls, and not during one.
- * Every value is taken: any version, flag, event byte, marks, window number and buffer length gets the
+ * Every value is taken: any content of the record and the registers and any buffer length gets the
  * answer that the rules give it, SYSTEM_ERROR (4) where the record or the sizes are not sound, or where lpc
  * and the blocks of the window memory together are above 65,536.
  */
@@ -86,8 +86,8 @@ extern "C" {
 #define HIOMAP_WINDOW_WRITE 2
 
 /*
- * A session, as the board keeps it. Make one with hiomap_fresh. A record with a flag above 1 is not sound, nor is
- * one in which bit 0x40 of the event byte is set and access not suspended, or the other way round.
+ * A session, as the board keeps it. Make one with hiomap_fresh. A record with numbered or suspended above 1 is not
+ * sound, nor is one in which bit 0x40 of the event byte is set and access not suspended, or the other way round.
  */
 typedef struct hiomap_record {
     uint8_t version;   /* the agreed version: 0 none, 1, 2 */
@@ -147,8 +147,8 @@ hiomap_record hiomap_fresh(void);
 /*
  * Serves one mailbox command and returns the number of its chip actions.
  *   record     the session; changed in place. One that is not sound is answered with SYSTEM_ERROR and stays
- *              exactly as it is: a window number above 2 or a flag (numbered, suspended) above 1, and 0x40
- *              and suspended that disagree, are among these
+ *              exactly as it is: a window number above 2, numbered or suspended above 1, and 0x40 and
+ *              suspended that disagree, are among these
  *   registers  the 16 registers as received; they hold the response afterwards
  *   lpc        the window's first LPC block (B)
  *   timeout    the suggested timeout in seconds (T)

@@ -97,7 +97,7 @@ int main(void) {
     COMMAND(2, 1, 2);                 /* GET_INFO, version 2 */
     COMMAND(6, 2, 1, 0, 0, 0);        /* a write window at block 1, no hint: its 2 blocks are 1 and 2 */
     memset(memory, 0xA5, 300);        /* the host writes in the first window block, */
-    memory[HIOMAP_BLOCK_BYTES] = 0x5A; /* and in the second, which it marks later */
+    memory[HIOMAP_BLOCK_BYTES] = 0x5A; /* and in the second, not marked yet: the first FLUSH leaves it */
     COMMAND(7, 3, 0, 0, 1, 0);        /* MARK_DIRTY, the first window block */
     COMMAND(8, 4);                    /* FLUSH: an erase and 16 pages */
     print_flash();
@@ -146,7 +146,7 @@ int main(void) {
     printf("window %u\n", session.window);
     change_access("resume changed", hiomap_resume_changed);
     printf("window %u\n", session.window);
-    session.suspended = 2;            /* a flag above 1 is not sound either; a resume takes it for yes */
+    session.suspended = 2;            /* neither 0 nor 1 is not sound either; a resume takes it for yes */
     COMMAND(2, 17, 2);
     change_access("resume", hiomap_resume);
     printf("suspended %u\n", session.suspended);

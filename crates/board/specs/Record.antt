@@ -42,7 +42,7 @@ numberOr spare (Number n) = n
 abbrev pub isRegular : Record → Bool
 isRegular h = leb (h .numbered) 1 && (leb (h .suspended) 1 && leb (h .window) 2)
 
--- the session that a record stands for; a yes or no above 1 counts as yes there, and a window number above 2 as none (house)
+-- the session that a record stands for; `numbered` or `suspended` above 1 counts as yes there, and a window number above 2 as none (house)
 abbrev pub sessionOf : Record → Session
 sessionOf h =
     record {

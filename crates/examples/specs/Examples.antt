@@ -447,12 +447,12 @@ example15 =
     ∷ command (5 ∷ 11 ∷ 2 ∷ []) shows (refused 6 ∷ [])
     ∷ command (5 ∷ 11 ∷ 2 ∷ []) shows (refused 8 ∷ [])
     ∷ resume shows []
-    ∷ command (5 ∷ 12 ∷ 1 ∷ []) shows (code 1 ∷ arguments [] ∷ actions 17 ∷ window Closed 0 0 ∷ marks [] ∷ flash (blocks (0xa0 ∷ 0xa1 ∷ 0x3c ∷ 0xa3 ∷ [])) ∷ [])
+    ∷ command (5 ∷ 12 ∷ 1 ∷ []) shows (code 1 ∷ arguments [] ∷ actions 17 ∷ window Closed 0 0 ∷ marks [] ∷ memory (blocks (0x3c ∷ 0x3c ∷ [])) ∷ flash (blocks (0xa0 ∷ 0xa1 ∷ 0x3c ∷ 0xa3 ∷ [])) ∷ [])
     ∷ command (2 ∷ 13 ∷ 1 ∷ []) shows (version 1 ∷ [])
     ∷ command (6 ∷ 14 ∷ 0 ∷ 0 ∷ []) shows (window Write 0 2 ∷ [])
     ∷ write (blocks (0x5a ∷ 0x5a ∷ [])) shows []
     ∷ command (7 ∷ 15 ∷ 0 ∷ 0 ∷ 1 ∷ 0 ∷ []) shows (marks (1 ∷ []) ∷ [])
-    ∷ command (5 ∷ 16 ∷ 2 ∷ []) shows (code 1 ∷ arguments [] ∷ actions 17 ∷ window Closed 0 0 ∷ marks [] ∷ flash (blocks (0x5a ∷ 0xa1 ∷ 0x3c ∷ 0xa3 ∷ [])) ∷ [])
+    ∷ command (5 ∷ 16 ∷ 2 ∷ []) shows (code 1 ∷ arguments [] ∷ actions 17 ∷ window Closed 0 0 ∷ marks [] ∷ memory (blocks (0x5a ∷ 0x5a ∷ [])) ∷ flash (blocks (0x5a ∷ 0xa1 ∷ 0x3c ∷ 0xa3 ∷ [])) ∷ [])
     ∷ []
 
 -- the twelve, and those

@@ -4,6 +4,7 @@ use mathlib.Core.Bool.{Bool, true, false, cond, not, _&&_, and-false}
 use mathlib.Core.List.{List, _∷_}
 use mathlib.Core.Logic.{_⊎_, inl, inr}
 use Prim.Native.Nat.{ℕ, _≤_, _<_}
+use native.Mathlib.Omega.{arith}
 use lib.Dec.{leb, ltb}
 use borrow.Author.Tests.{leb-true, lt-ltb, le-ltb, le-leb, lt-leb}
 use Rattle.units.proofs.Cases.{below-or}
@@ -22,16 +23,16 @@ use Rattle.invariants.specs.Refused.{numberTaken}
 
 -- ---- the argument rule, by the flags
 passes : (version flags : ℕ) → Allowed version flags → (leb 2 version && ltb 1 flags) ≡ false
-passes version flags (inl e) = rw (lt-leb 2 version e)
-passes version flags (inr e) = rw (le-ltb 1 flags e) (and-false (leb 2 version))
+passes version flags (inl e) = rw (lt-leb 2 version (omega arith))
+passes version flags (inr e) = rw (le-ltb 1 flags (omega arith)) (and-false (leb 2 version))
 
 breaks : (version flags : ℕ) → (Allowed version flags → ⊥) → (leb 2 version && ltb 1 flags) ≡ true
 breaks version flags n = above (below-or version 2) (below-or 1 flags)
   where
     above : (version < 2) ⊎ (2 ≤ version) → (1 < flags) ⊎ (flags ≤ 1) → (leb 2 version && ltb 1 flags) ≡ true
-    above (inl v) f = absurd (n (inl v))
+    above (inl v) f = absurd (n (inl (omega arith)))
     above (inr v) (inl f) = rw (le-leb 2 version v, lt-ltb 1 flags f)
-    above (inr v) (inr f) = absurd (n (inr f))
+    above (inr v) (inr f) = absurd (n (inr (omega arith)))
 
 -- ---- a CLOSE_WINDOW that comes to the last check
 module _ (setup : Setup) (registers : List ℕ) (m : Machine) (r : ReachesFlags setup registers m) where

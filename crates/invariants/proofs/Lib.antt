@@ -5,5 +5,6 @@ pub mod Events
 pub mod Flags
 pub mod Kept
 mod MarksKept
+pub mod Memory
 pub mod Refused
 pub mod Runs

@@ -1,4 +1,5 @@
--- What document 01 says of commands by their codes, with its own numbers, is what the rows of the table say. Proved in proofs/Codes.antt.
+-- What the papers say of commands by their codes, with their own numbers, is what the rows of the table say: document 01, and 02, Ticket 7. Proved in
+-- proofs/Codes.antt.
 use mathlib.Core.Path.{_≡_}
 use mathlib.Core.Bool.{Bool, cond, not, _&&_, _||_}
 use mathlib.Core.List.{List}
@@ -13,7 +14,7 @@ abbrev pub knows : ℕ → ℕ → Bool
 knows version code =
     cond (eqb version 0) (eqb code 1 || (eqb code 2 || eqb code 9)) (leb 1 code && leb code (cond (eqb version 1) 9 10))
 
--- the argument rules: GET_INFO (2), a create (4, 6), CLOSE_WINDOW (5), MARK_DIRTY and ERASE (7, 10), FLUSH (8); no other command has one
+-- which of the argument rules of Refusals.antt a command has: GET_INFO (2), a create (4, 6), CLOSE_WINDOW (5), MARK_DIRTY and ERASE (7, 10), FLUSH (8); no other command has one
 abbrev pub ruleOf : ℕ → Session → List ℕ → ℕ → Bool
 ruleOf code =
     cond (eqb code 2) noVersion

@@ -24,7 +24,8 @@ pub record ReachesFlags (setup : Setup) (registers : List ℕ) (m : Machine) : T
 abbrev pub Allowed : ℕ → ℕ → Type 0
 Allowed version flags = (version < 2) ⊎ (flags ≤ 1)
 
--- "PARAM_ERROR for other values": 2, and nothing but the previous number is changed. With allowed flags a write window is flushed, and the window dropped
+-- "PARAM_ERROR for other values": 2, and nothing but the previous number is changed. With allowed flags the window is closed: `closing`,
+-- of which `Demand2` has the flash and the chip actions
 abbrev pub FlagsAsSaid : Type 0
 FlagsAsSaid =
     (setup : Setup) (registers : List ℕ) (m : Machine) → ReachesFlags setup registers m

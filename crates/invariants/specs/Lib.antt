@@ -3,5 +3,6 @@ pub mod Demand2
 pub mod Events
 pub mod Flags
 pub mod Kept
+pub mod Memory
 pub mod Refused
 pub mod Runs

@@ -1,5 +1,5 @@
 -- What a refusal leaves: document 01, below the table of "Registers". It is said of the machine and of each register, and not by the mediator's own `refused`;
--- the response codes are those of `codeFor`. Proved in proofs/Refused.antt.
+-- the response codes are those of `codeFor`, and what a create that is refused for its argument leaves is `closing`. Proved in proofs/Refused.antt.
 use mathlib.Core.Path.{_≡_}
 use mathlib.Core.Bool.{Bool, true, _||_}
 use mathlib.Core.List.{List, [], _∷_, _++_}

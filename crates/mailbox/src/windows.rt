@@ -52,7 +52,7 @@ pub(crate) fn reset(call: Call) -> Answer
     answer(next, registers, 1, NO_ARGUMENTS, 0)
 }
 
-// CLOSE_WINDOW: the window is flushed and dropped, if its flags are defined.
+// CLOSE_WINDOW: the window is flushed and dropped, if the flags in argument 0 are defined.
 pub(crate) fn close_window(known: bool, call: Call, flash: &mut [u8], memory: &[u8]) -> Answer
     ensures { λ r. ⌜ (known ≡ closeWindow .known (call .session .version)
         → outcome r (now (flash .exit)) (now (memory .entry)) ≡ obeyedBy closeWindow call (now (flash .entry)) (now (memory .entry))) ⌝ }

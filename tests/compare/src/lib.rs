@@ -6,7 +6,7 @@ pub mod twin;
 
 use second::{Kind, Session};
 
-/// C's record. The flags are numbers here, so that a byte that is neither 0 nor 1 has a meaning.
+/// C's record. Yes and no are numbers here, so that a byte that is neither 0 nor 1 has a meaning.
 #[repr(C)]
 #[derive(Clone, Copy, Debug, PartialEq)]
 pub struct Record {

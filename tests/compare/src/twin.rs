@@ -3,7 +3,7 @@
 use crate::{record_of, session_of, Record};
 use second::Session;
 
-/// A number that is no window's, or a flag that is neither 0 nor 1, stands for no session.
+/// A number that is no window's, or a yes or no that is neither 0 nor 1, stands for no session.
 fn stands_for_a_session(record: &Record) -> bool {
     record.window <= 2 && record.numbered <= 1 && record.suspended <= 1
 }
@@ -41,7 +41,7 @@ pub fn resume_changed(record: &mut Record) -> bool {
     access(record, second::resume_changed, true)
 }
 
-/// Takes every record. The flag of the previous number stays as it is, and so does the window number unless the window is dropped.
+/// Takes every record. Whether there is a previous number stays as it is, and so does the window number unless the window is dropped.
 fn access(record: &mut Record, call: fn(&mut Session) -> bool, drops: bool) -> bool {
     let mut session = session_of(&Record { window: record.window % 3, ..*record });
     let done = call(&mut session);

@@ -93,14 +93,14 @@ fn fields() -> Result<(), String> {
     Ok(())
 }
 
-/// A flag above 1 stands for no session; suspend and resume take it.
-fn wide_flags() -> Result<(), String> {
+/// A yes or no above 1 stands for no session; suspend and resume take it.
+fn wide_answers() -> Result<(), String> {
     for (version, window) in [(2, 2), (1, 2), (2, 1), (2, 0), (0, 0), (3, 2), (2, 7)] {
         for (at, other) in [(NUMBERED, SUSPENDED), (SUSPENDED, NUMBERED)] {
             for value in [2, 3, 4, 0x7f, 0x80, 0xfe, 0xff] {
                 for beside in [0, 1, value] {
                     let record = with_byte(with_byte(record(version, window), at, value), other, beside);
-                    every_call(&pair(record)).map_err(|e| format!("flag {at} of the record is {value}, the other {beside}: {e}"))?;
+                    every_call(&pair(record)).map_err(|e| format!("byte {at} of the record is {value}, the other {beside}: {e}"))?;
                 }
             }
         }
@@ -346,7 +346,7 @@ fn main() {
         ("counts", Box::new(counts)),
         ("far window", Box::new(far_window)),
         ("most actions", Box::new(most_actions)),
-        ("wide flags", Box::new(wide_flags)),
+        ("wide answers", Box::new(wide_answers)),
         ("bench", Box::new(move || bench(&program))),
     ];
     for (name, section) in &sections {

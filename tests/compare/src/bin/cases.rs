@@ -153,7 +153,7 @@ fn refusal(side: Side, (version, kind, suspended): (u8, Kind, bool), code: u8, s
     if kind == Kind::Write {
         m.session.marks[1] = 1;
     }
-    // GET_INFO refuses only 0; the others get a block outside or inside the window
+    // GET_INFO refuses only 0; CLOSE_WINDOW gets flags, the others a block outside or inside the window
     let first = if code == 2 { argument % 9 } else { argument };
     let before = m.clone();
     let (registers, actions) = m.send(code, sequence, &[first, 1]);
@@ -200,6 +200,7 @@ fn edges(side: Side) {
 
 /// CLOSE_WINDOW with every value of its flags, at each version, with each window: the values that get one answer, and the answer as in `refusals`.
 fn flags(side: Side) {
+    println!("CLOSE_WINDOW; ~ where more than the previous number changed");
     for version in 0..3 {
         for kind in [Kind::Closed, Kind::Read, Kind::Write] {
             let answers: Vec<String> = (0..256).map(|flags| refusal(side, (version, kind, false), 5, 1, flags)).collect();
