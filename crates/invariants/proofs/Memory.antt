@@ -1,6 +1,5 @@
 -- What every command makes of the window memory: the claim stands in specs/Memory.antt.
 use mathlib.Core.Path.{_≡_, refl}
-use mathlib.Core.Bool.{cond}
 use mathlib.Core.List.{List}
 use Prim.Native.Nat.{ℕ}
 use Rattle.session.specs.Machine.{Setup, Machine}
