@@ -102,8 +102,8 @@ hint s registers = cond (ltb (s .version) 2) 0 (number 2 2 registers)
 abbrev pub sizeFor : ℕ → ℕ → ℕ → ℕ → ℕ
 sizeFor S C o n = cond (eqb n 0) (min C (S - o)) (min (min C (S - o)) n)
 
--- "flushed if it is a write window", and dropped: what a CLOSE_WINDOW leaves that no check refuses, and a create that is refused for its argument. Without a write
--- window a sound session has no marks, so that nothing is flushed
+-- "flushed if it is a write window", and dropped: what a CLOSE_WINDOW leaves that no check refuses, and a create that is refused for
+-- its argument. Without a write window a sound session has no marks, so that nothing is flushed
 abbrev pub closing : ℕ → List ℕ → Machine → Outcome
 closing code registers m =
     outcome (answered (dropWindow (m .session)) registers code [] (flushWhole m .actions)) (flushWhole m .flash) (m .memory)
