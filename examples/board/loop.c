@@ -146,7 +146,7 @@ int main(void) {
     printf("window %u\n", session.window);
     change_access("resume changed", hiomap_resume_changed);
     printf("window %u\n", session.window);
-    session.suspended = 2;            /* neither 0 nor 1 is not sound either; a resume takes it for yes */
+    session.suspended = 2;            /* a 2 for yes or no is not sound either; a resume takes it for yes */
     COMMAND(2, 17, 2);
     change_access("resume", hiomap_resume);
     printf("suspended %u\n", session.suspended);
