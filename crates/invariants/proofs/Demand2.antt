@@ -24,7 +24,8 @@ use Rattle.mailbox.specs.Commands.{Outcome, numbered, marked, flushing}
 use Rattle.mailbox.specs.Table.{Command, flush}
 use Rattle.mailbox.specs.Mediator.{commandAt, commandIn, reasonOf, reasonIn, answerTo, obeyed, mediate}
 use Rattle.mailbox.proofs.Mediating.{each-command}
-use Rattle.invariants.specs.Demand2.{atClose, isCreate, flushedBy, flushedFor, CarriedOut, Leaves, Demand2}
+use Rattle.invariants.specs.Codes.{isCreate}
+use Rattle.invariants.specs.Demand2.{atClose, flushedBy, flushedFor, CarriedOut, Leaves, Demand2}
 use Rattle.invariants.proofs.CarriedOut.{carried-out, close-leaves}
 use Rattle.invariants.proofs.Kept.{flush-sound}
 

@@ -15,16 +15,17 @@ use Rattle.mailbox.specs.Table.{Command}
 use Rattle.mailbox.specs.Mediator.{commandAt, commandIn, reasonIn, answerTo, mediate}
 use Rattle.mailbox.proofs.Mediating.{mediate-as, each-command}
 use Rattle.mailbox.proofs.Refusing.{refused-as}
-use Rattle.invariants.specs.Refused.{refusal, creates, RefusalsAsSaid}
+use Rattle.invariants.specs.Codes.{isCreate}
+use Rattle.invariants.specs.Refused.{refusal, RefusalsAsSaid}
 
 -- ---- what is left by a refusal for its argument, by the row
-when-broken : (code : ℕ) → creates code ≡ false → commandAt code .whenBroken ≡ refused
+when-broken : (code : ℕ) → isCreate code ≡ false → commandAt code .whenBroken ≡ refused
 when-broken =
-    each-command (λ (n : ℕ) (c : Command). creates n ≡ false → c .whenBroken ≡ refused)
+    each-command (λ (n : ℕ) (c : Command). isCreate n ≡ false → c .whenBroken ≡ refused)
     (λ _. refl) (λ _. refl) (λ _. refl) (λ e. absurd (true≢false e)) (λ _. refl) (λ e. absurd (true≢false e)) (λ _. refl) (λ _. refl) (λ _. refl) (λ _. refl)
     (λ _ _. refl)
 
-either : (code : ℕ) → creates code ≡ true → (code ≡ 4) ⊎ (code ≡ 6)
+either : (code : ℕ) → isCreate code ≡ true → (code ≡ 4) ⊎ (code ≡ 6)
 either code e =
     ⊎-elim
     (λ (t : eqb code 4 ≡ true). inl (eqb-true code 4 t))
@@ -41,17 +42,17 @@ module _ (setup : Setup) (registers : List ℕ) (m : Machine) where
   unfolding answerTo
   system e = mediate-as setup registers m System e
 
-  broken-create : creates (commandOf registers) ≡ true → reasonIn setup registers m ≡ Argument
+  broken-create : isCreate (commandOf registers) ≡ true → reasonIn setup registers m ≡ Argument
       → mediate setup registers m ≡ closing 2 registers (numberedIn registers m)
   unfolding answerTo
   broken-create c e =
       mediate-as setup registers m Argument e
       ∙ ap (λ (f : ℕ → List ℕ → Machine → Outcome). f 2 registers (numberedIn registers m)) (closes-at (commandOf registers) (either (commandOf registers) c))
 
-  broken-alone : (creates (commandOf registers) ≡ true → reasonIn setup registers m ≡ Argument → ⊥) → reasonIn setup registers m ≡ Argument
+  broken-alone : (isCreate (commandOf registers) ≡ true → reasonIn setup registers m ≡ Argument → ⊥) → reasonIn setup registers m ≡ Argument
       → commandIn registers .whenBroken ≡ refused
   broken-alone n e =
-      ⊎-elim (λ t. absurd (n t e)) (λ t. when-broken (commandOf registers) t) (decided (creates (commandOf registers)))
+      ⊎-elim (λ t. absurd (n t e)) (λ t. when-broken (commandOf registers) t) (decided (isCreate (commandOf registers)))
 
 pub refusals-as-said : RefusalsAsSaid
 refusals-as-said setup registers m = (

@@ -14,11 +14,15 @@ abbrev pub knows : ℕ → ℕ → Bool
 knows version code =
     cond (eqb version 0) (eqb code 1 || (eqb code 2 || eqb code 9)) (leb 1 code && leb code (cond (eqb version 1) 9 10))
 
+-- "4 and 6, create a read or write window"
+abbrev pub isCreate : ℕ → Bool
+isCreate code = eqb code 4 || eqb code 6
+
 -- which of the argument rules of Refusals.antt a command has: GET_INFO (2), a create (4, 6), CLOSE_WINDOW (5), MARK_DIRTY and ERASE (7, 10), FLUSH (8); no other command has one
 abbrev pub ruleOf : ℕ → Session → List ℕ → ℕ → Bool
 ruleOf code =
     cond (eqb code 2) noVersion
-    (cond (eqb code 4 || eqb code 6) outsideFlash
+    (cond (isCreate code) outsideFlash
     (cond (eqb code 5) undefinedFlags (cond (eqb code 7 || eqb code 10) outsideWindow (cond (eqb code 8) flushOutside neverBroken))))
 
 -- the claim, of every code: which versions know it, "the sequence equals the previous one, not GET_INFO" (2), "suspended and not GET_INFO or ACK"

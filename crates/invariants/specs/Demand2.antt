@@ -1,7 +1,7 @@
 -- Demand 2's last sentence, said of every command: "The two window marks are carried out as it says: dirty blocks become the window's bytes,
 -- erased blocks become FF." Of the chip actions only the number is told. Proved in proofs/Demand2.antt.
 use mathlib.Core.Path.{_≡_}
-use mathlib.Core.Bool.{Bool, cond, _&&_, _||_}
+use mathlib.Core.Bool.{cond, _&&_, _||_}
 use mathlib.Core.List.{List}
 use mathlib.Core.Option.{Option, none, some}
 use Prim.Native.Nat.{ℕ, _+_, _-_, _*_, _≤_, _<_}
@@ -17,18 +17,15 @@ use Rattle.refusals.specs.declared.Reason.the-variants.{Accepted, System, Repea
 use Rattle.registers.specs.Registers.{commandOf}
 use Rattle.refusals.specs.Refusals.{isWrite}
 use Rattle.mailbox.specs.Commands.{flushing}
-use Rattle.mailbox.specs.Table.{createReadWindow, closeWindow, createWriteWindow, flush}
+use Rattle.mailbox.specs.Table.{closeWindow, flush}
 use Rattle.mailbox.specs.Mediator.{reasonIn, mediate}
+use Rattle.invariants.specs.Codes.{isCreate}
 
 -- ---- whose marks a command carries out
 
 -- a window that is closed is "flushed if it is a write window"
 abbrev pub atClose : Session → Option Session
 atClose s = cond (isWrite (s .window)) (some s) none
-
--- a create of either kind, by its code
-abbrev pub isCreate : ℕ → Bool
-isCreate code = eqb code (createReadWindow .code) || eqb code (createWriteWindow .code)
 
 -- a command that no check refused: a create closes the active window first, CLOSE_WINDOW closes it, and FLUSH adds its own blocks, "marked as in
 -- MARK_DIRTY", before; no other command flushes
