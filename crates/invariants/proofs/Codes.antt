@@ -1,15 +1,16 @@
 -- The rows of the table say what document 01 says: the claim stands in specs/Codes.antt.
 use mathlib.Core.Path.{_≡_, refl, sym, ap, _∙_}
-use mathlib.Core.Bool.{true, false, not, _||_, and-false}
+use mathlib.Core.Bool.{true, false, cond, not, _||_, and-false}
 use Prim.Native.Nat.{ℕ, zero, suc, _≤_}
 use native.Mathlib.Omega.{arith}
 use lib.Dec.{leb, eqb, lit≤}
 use borrow.Author.Tests.{ne-eqb, le-leb, lt-leb}
 use Rattle.refusals.specs.Refusals.{neverBroken, needsNumber, needsAccess, needsWindow}
+use Rattle.mailbox.specs.Commands.{refused, closing}
 use Rattle.mailbox.specs.Table.{Command, unknown}
 use Rattle.mailbox.specs.Mediator.{commandAt}
 use Rattle.mailbox.proofs.Mediating.{past-table}
-use Rattle.invariants.specs.Codes.{knows, ruleOf, CodesAsSaid}
+use Rattle.invariants.specs.Codes.{knows, isCreate, ruleOf, CodesAsSaid}
 
 -- the codes that every version knows, that versions 1 and 2 know, and ERASE
 unversioned : (code : ℕ) → knows 0 code ≡ true → 1 ≤ code → code ≤ 9 → (version : ℕ) → true ≡ knows version code
@@ -49,23 +50,24 @@ none n = past-table (suc (suc (suc (suc (suc (suc (suc (suc (suc (suc (suc n))))
 
 pub codes-as-said : CodesAsSaid
 unfolding commandAt
-codes-as-said zero = (never-zero, refl, refl, refl, refl)
-codes-as-said (suc zero) = (unversioned 1 refl (lit≤ tt) (lit≤ tt), refl, refl, refl, refl)
-codes-as-said (suc (suc zero)) = (unversioned 2 refl (lit≤ tt) (lit≤ tt), refl, refl, refl, refl)
-codes-as-said (suc (suc (suc zero))) = (from-one 3 refl (lit≤ tt) (lit≤ tt), refl, refl, refl, refl)
-codes-as-said (suc (suc (suc (suc zero)))) = (from-one 4 refl (lit≤ tt) (lit≤ tt), refl, refl, refl, refl)
-codes-as-said (suc (suc (suc (suc (suc zero))))) = (from-one 5 refl (lit≤ tt) (lit≤ tt), refl, refl, refl, refl)
-codes-as-said (suc (suc (suc (suc (suc (suc zero)))))) = (from-one 6 refl (lit≤ tt) (lit≤ tt), refl, refl, refl, refl)
-codes-as-said (suc (suc (suc (suc (suc (suc (suc zero))))))) = (from-one 7 refl (lit≤ tt) (lit≤ tt), refl, refl, refl, refl)
-codes-as-said (suc (suc (suc (suc (suc (suc (suc (suc zero)))))))) = (from-one 8 refl (lit≤ tt) (lit≤ tt), refl, refl, refl, refl)
-codes-as-said (suc (suc (suc (suc (suc (suc (suc (suc (suc zero))))))))) = (unversioned 9 refl (lit≤ tt) (lit≤ tt), refl, refl, refl, refl)
-codes-as-said (suc (suc (suc (suc (suc (suc (suc (suc (suc (suc zero)))))))))) = (from-two, refl, refl, refl, refl)
+codes-as-said zero = (never-zero, refl, refl, refl, refl, refl)
+codes-as-said (suc zero) = (unversioned 1 refl (lit≤ tt) (lit≤ tt), refl, refl, refl, refl, refl)
+codes-as-said (suc (suc zero)) = (unversioned 2 refl (lit≤ tt) (lit≤ tt), refl, refl, refl, refl, refl)
+codes-as-said (suc (suc (suc zero))) = (from-one 3 refl (lit≤ tt) (lit≤ tt), refl, refl, refl, refl, refl)
+codes-as-said (suc (suc (suc (suc zero)))) = (from-one 4 refl (lit≤ tt) (lit≤ tt), refl, refl, refl, refl, refl)
+codes-as-said (suc (suc (suc (suc (suc zero))))) = (from-one 5 refl (lit≤ tt) (lit≤ tt), refl, refl, refl, refl, refl)
+codes-as-said (suc (suc (suc (suc (suc (suc zero)))))) = (from-one 6 refl (lit≤ tt) (lit≤ tt), refl, refl, refl, refl, refl)
+codes-as-said (suc (suc (suc (suc (suc (suc (suc zero))))))) = (from-one 7 refl (lit≤ tt) (lit≤ tt), refl, refl, refl, refl, refl)
+codes-as-said (suc (suc (suc (suc (suc (suc (suc (suc zero)))))))) = (from-one 8 refl (lit≤ tt) (lit≤ tt), refl, refl, refl, refl, refl)
+codes-as-said (suc (suc (suc (suc (suc (suc (suc (suc (suc zero))))))))) = (unversioned 9 refl (lit≤ tt) (lit≤ tt), refl, refl, refl, refl, refl)
+codes-as-said (suc (suc (suc (suc (suc (suc (suc (suc (suc (suc zero)))))))))) = (from-two, refl, refl, refl, refl, refl)
 codes-as-said (suc (suc (suc (suc (suc (suc (suc (suc (suc (suc (suc n))))))))))) = (
   λ v. ap (λ (c : Command). c .known v) (none n) ∙ never-past n v,
   ap (λ (c : Command). needsNumber (c .needs)) (none n) ∙ numbers,
   ap (λ (c : Command). needsAccess (c .needs)) (none n) ∙ accesses,
   ap (λ (c : Command). needsWindow (c .needs)) (none n) ∙ windows,
   ap (λ (c : Command). c .broken) (none n) ∙ rules,
+  ap (λ (c : Command). c .whenBroken) (none n) ∙ refusals,
 )
   where
     numbers : true ≡ not (eqb (suc (suc (suc (suc (suc (suc (suc (suc (suc (suc (suc n))))))))))) 2)
@@ -79,3 +81,6 @@ codes-as-said (suc (suc (suc (suc (suc (suc (suc (suc (suc (suc (suc n))))))))))
 
     rules : neverBroken ≡ ruleOf (suc (suc (suc (suc (suc (suc (suc (suc (suc (suc (suc n)))))))))))
     rules = rw (off n 2 (lit≤ tt), off n 4 (lit≤ tt), off n 6 (lit≤ tt), off n 5 (lit≤ tt), off n 7 (lit≤ tt), off n 10 (lit≤ tt), off n 8 (lit≤ tt))
+
+    refusals : refused ≡ cond (isCreate (suc (suc (suc (suc (suc (suc (suc (suc (suc (suc (suc n)))))))))))) closing refused
+    refusals = rw (off n 4 (lit≤ tt), off n 6 (lit≤ tt))

@@ -36,22 +36,19 @@ breaks version flags n = above (below-or version 2) (below-or 1 flags)
 
 -- ---- a CLOSE_WINDOW that comes to the last check
 module _ (setup : Setup) (registers : List ℕ) (m : Machine) (r : ReachesFlags setup registers m) where
-  accepted : Allowed (m .session .version) (argument 0 registers) → reasonIn setup registers m ≡ Accepted
+  last-check : {broken : Bool} → (leb 2 (m .session .version) && ltb 1 (argument 0 registers)) ≡ broken
+      → reasonIn setup registers m ≡ cond broken Argument Accepted
   unfolding commandAt reasonFor
-  accepted a = rw (r .is-close, r .sound, r .new, le-leb 1 (m .session .version) (r .known), r .awake, passes (m .session .version) (argument 0 registers) a)
-
-  broken : (Allowed (m .session .version) (argument 0 registers) → ⊥) → reasonIn setup registers m ≡ Argument
-  unfolding commandAt reasonFor
-  broken a = rw (r .is-close, r .sound, r .new, le-leb 1 (m .session .version) (r .known), r .awake, breaks (m .session .version) (argument 0 registers) a)
+  last-check e = rw (r .is-close, r .sound, r .new, le-leb 1 (m .session .version) (r .known), r .awake, e)
 
   closed-by : Allowed (m .session .version) (argument 0 registers) → mediate setup registers m ≡ closing 1 registers (numberedIn registers m)
   unfolding commandAt
-  closed-by a = carried setup registers m 5 (r .is-close) (accepted a)
+  closed-by a = carried setup registers m 5 (r .is-close) (last-check (passes (m .session .version) (argument 0 registers) a))
 
   refused-by : (Allowed (m .session .version) (argument 0 registers) → ⊥) → mediate setup registers m ≡ numberTaken 2 registers m
   unfolding commandAt answerTo
   refused-by a =
-      mediate-as setup registers m Argument (broken a)
+      mediate-as setup registers m Argument (last-check (breaks (m .session .version) (argument 0 registers) a))
       ∙ ap (λ (n : ℕ). commandAt n .whenBroken 2 registers (numberedIn registers m)) (r .is-close)
 
 pub flags-as-said : FlagsAsSaid

@@ -7,6 +7,7 @@ use Prim.Native.Nat.{ℕ}
 use lib.Dec.{leb, eqb}
 use Rattle.session.specs.declared.Session.{Session}
 use Rattle.refusals.specs.Refusals.{neverBroken, noVersion, outsideFlash, undefinedFlags, outsideWindow, flushOutside, needsNumber, needsAccess, needsWindow}
+use Rattle.mailbox.specs.Commands.{refused, closing}
 use Rattle.mailbox.specs.Mediator.{commandAt}
 
 -- "Version 0 knows 1, 2 and 9; version 1 knows 1 to 9; version 2 knows 1 to 10"
@@ -18,7 +19,8 @@ knows version code =
 abbrev pub isCreate : ℕ → Bool
 isCreate code = eqb code 4 || eqb code 6
 
--- which of the argument rules of Refusals.antt a command has: GET_INFO (2), a create (4, 6), CLOSE_WINDOW (5), MARK_DIRTY and ERASE (7, 10), FLUSH (8); no other command has one
+-- which of the argument rules of Refusals.antt a command has: GET_INFO (2), a create (4, 6), CLOSE_WINDOW (5), MARK_DIRTY and ERASE (7, 10), FLUSH (8); no
+-- other command has one
 abbrev pub ruleOf : ℕ → Session → List ℕ → ℕ → Bool
 ruleOf code =
     cond (eqb code 2) noVersion
@@ -26,7 +28,8 @@ ruleOf code =
     (cond (eqb code 5) undefinedFlags (cond (eqb code 7 || eqb code 10) outsideWindow (cond (eqb code 8) flushOutside neverBroken))))
 
 -- the claim, of every code: which versions know it, "the sequence equals the previous one, not GET_INFO" (2), "suspended and not GET_INFO or ACK"
--- (9), "MARK_DIRTY, ERASE or FLUSH" (7, 10, 8) "without an active write window", and its argument rule
+-- (9), "MARK_DIRTY, ERASE or FLUSH" (7, 10, 8) "without an active write window", its argument rule, and what is left where
+-- that is broken: "a create refused for its argument has already closed and flushed the old window"
 abbrev pub CodesAsSaid : Type 0
 CodesAsSaid =
     (code : ℕ)
@@ -35,3 +38,4 @@ CodesAsSaid =
     × (needsAccess (commandAt code .needs) ≡ not (eqb code 2 || eqb code 9))
     × (needsWindow (commandAt code .needs) ≡ (eqb code 7 || (eqb code 8 || eqb code 10)))
     × (commandAt code .broken ≡ ruleOf code)
+    × (commandAt code .whenBroken ≡ cond (isCreate code) closing refused)
