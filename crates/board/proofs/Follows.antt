@@ -27,6 +27,7 @@ answered window h true t p w =
       window = w i;
       first = t .first;
       size = t .size;
+      counts = t .counts;
       marks = t .marks;
     }
   where

@@ -8,12 +8,16 @@ use Rattle.session.specs.Machine.{Setup, setUp, lent}
 use Rattle.session.specs.declared.Session.{Session}
 use Rattle.session.specs.declared.suspension.Suspension.{Suspension}
 use Rattle.session.specs.Suspension.{suspended, resumed, resumedChanged}
+use Rattle.soundness.specs.declared.pending_work.PendingWork.{PendingWork}
+use Rattle.soundness.specs.declared.pending_work.PendingWork.the-variants.{Unsound, Marked}
+use Rattle.soundness.specs.Pending.{pendingIn}
 use Rattle.flush.specs.Window.{Advanced, advanced}
 use Rattle.mailbox.specs.Commands.{Outcome, answered}
 use Rattle.mailbox.specs.Mediator.{mediate}
 use Rattle.board.specs.declared.Record.{Record}
 use Rattle.board.specs.declared.Stepped.{Stepped}
 use Rattle.board.specs.declared.Suspended.{Suspended}
+use Rattle.board.specs.declared.Unsaved.{Unsaved}
 use Rattle.board.specs.Record.{isRegular, sessionOf, recordOf, withNumbers}
 
 -- "B", and "T", as C passes them
@@ -75,6 +79,15 @@ steppedRecord h memory done flash =
     cond (isRegular h)
     (advanced (lent (sessionOf h) flash memory) done)
     (record { code = 4; yes = false; flash = flash })
+
+-- "unsound", and else the two numbers, as C has them: with "unsound" both are 0 (house)
+abbrev pub unsavedOf : PendingWork → Unsaved
+unsavedOf Unsound = record { unsound = true; blocks = 0; actions = 0 }
+unsavedOf (Marked blocks actions) = record { unsound = false; blocks = blocks; actions = actions }
+
+-- how much is pending, whatever the other numbers of the record (02, Ticket 2)
+abbrev pub pendingRecord : Record → Unsaved
+pendingRecord h = unsavedOf (pendingIn (sessionOf h))
 
 -- from a session to C's record and back nothing is lost, nor the other way where the record is regular. Proved in proofs/Answers.antt
 abbrev pub NothingLost : Type 0

@@ -53,6 +53,7 @@ sessionOf h =
       window = windowOf (h .window);
       first = h .first;
       size = h .size;
+      counts = record { dirty = h .dirty; erased = h .erased };
       marks = h .marks;
     }
 
@@ -68,6 +69,8 @@ recordOf spare s =
       window = windowNumber (s .window);
       first = s .first;
       size = s .size;
+      dirty = s .counts .dirty;
+      erased = s .counts .erased;
       marks = s .marks;
     }
 
@@ -83,6 +86,8 @@ renumbered version numbered suspended window h =
       window = window;
       first = h .first;
       size = h .size;
+      dirty = h .dirty;
+      erased = h .erased;
       marks = h .marks;
     }
 

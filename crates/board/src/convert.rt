@@ -1,5 +1,6 @@
 // A record as a session, and a session as a record.
 use crate::Record;
+use session::Counts;
 use session::Previous;
 use session::Session;
 use session::Window;
@@ -37,6 +38,10 @@ pub(crate) fn session_of(held: Record) -> Session
         window: window_of(held.window),
         first: held.first,
         size: held.size,
+        counts: Counts {
+            dirty: held.dirty,
+            erased: held.erased,
+        },
         marks,
     }
 }
@@ -47,6 +52,7 @@ pub(crate) fn record_of(session: Session, spare: u8) -> Record
 {
     let previous = session.previous;
     let window = session.window;
+    let counts = session.counts;
     let marks = session.marks;
     Record {
         version: session.version,
@@ -57,6 +63,8 @@ pub(crate) fn record_of(session: Session, spare: u8) -> Record
         window: window_number(window),
         first: session.first,
         size: session.size,
+        dirty: counts.dirty,
+        erased: counts.erased,
         marks,
     }
 }

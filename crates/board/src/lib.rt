@@ -4,6 +4,7 @@
 // lends must be valid and must not overlap: include/hiomap.h.
 mod access;
 mod convert;
+mod pending;
 mod serving;
 
 pub use access::hiomap_resume;
@@ -11,6 +12,7 @@ pub use access::hiomap_resume_changed;
 pub use access::hiomap_step;
 pub use access::hiomap_suspend;
 use convert::record_of;
+pub use pending::hiomap_pending;
 pub use serving::hiomap_command;
 use session::new_session;
 ghost use mathlib.Core.Path.{_≡_};
@@ -31,6 +33,9 @@ pub struct Record {
     pub window: u8,
     pub first: u16,
     pub size: u16,
+    // How many of the marks are dirty, and how many erased.
+    pub dirty: u8,
+    pub erased: u8,
     pub marks: [u8; 64],
 }
 
@@ -46,6 +51,15 @@ pub struct Suspended {
 pub struct Stepped {
     pub code: u8,
     pub acted: bool,
+}
+
+// How much is pending: whether a kept number disagrees with the marks, and else the number of marked blocks, and
+// of the chip actions that their flush takes.
+#[repr(C)]
+pub struct Unsaved {
+    pub unsound: bool,
+    pub blocks: u32,
+    pub actions: u32,
 }
 
 // A fresh session.

@@ -1,8 +1,8 @@
 -- The window's part of the flash, lent and back.
 use mathlib.Core.Path.{_≡_, sym, ap, _∙_}
 use mathlib.Core.Bool.{true, false}
-use mathlib.Core.List.{List}
-use Prim.Native.Nat.{ℕ, zero, _+_, _-_, _≤_}
+use mathlib.Core.List.{List, []}
+use Prim.Native.Nat.{ℕ, _+_, _-_, _≤_}
 use native.Mathlib.Omega.{arith}
 use lib.ListN.{length}
 use borrow.Rule.Slice.PartMut.{putMid, midOf, mid-len}
@@ -12,9 +12,11 @@ use Rattle.units.specs.Units.{toBytes}
 use Rattle.session.specs.declared.Session.{Session}
 use Rattle.flush.specs.Actions.{Action, performAll}
 use Rattle.session.specs.Machine.{Machine}
-use Rattle.soundness.specs.Soundness.{marksSound, sound}
-use Rattle.soundness.proofs.Facts.{part-within}
-use Rattle.flush.proofs.Lists.{flush-unmarked}
+use Rattle.session.specs.Marks.{countsOf, noneMarked}
+use Rattle.soundness.specs.Soundness.{sound}
+use Rattle.soundness.proofs.Counting.{counts-same}
+use Rattle.soundness.proofs.Facts.{part-within, counts-right}
+use Rattle.flush.proofs.Lists.{flush-uncounted}
 use Rattle.flush.specs.declared.window.Step.{Step}
 use Rattle.flush.specs.declared.window.Step.the-variants.{Unsound, Suspended, Acted, Finished}
 use Rattle.flush.specs.Window.{windowActions, windowPart, performIn, hasNext, performNext, stepped, advanced, Flushed, flushWhole}
@@ -71,11 +73,12 @@ flushed-all m t = rw t
 flushed-by : Machine → List Action → Flushed
 flushed-by m actions = record { actions = length actions; flash = performIn (m .session) (m .memory) actions (m .flash) }
 
-pub flushed-unmarked : (m : Machine) → sound (length (m .flash)) (length (m .memory)) (m .session) ≡ true → marksSound zero (m .session .marks) ≡ true
+pub flushed-unmarked : (m : Machine) → sound (length (m .flash)) (length (m .memory)) (m .session) ≡ true → noneMarked (m .session .counts) ≡ true
     → record { actions = 0; flash = m .flash } ≡ flushWhole m
 unfolding flushed-by performIn performAll
 flushed-unmarked m t u =
     let s = m .session in
     let fits = part-within (length (m .flash)) (length (m .memory)) s t .0 in
-    sym (ap (flushed-by m) (flush-unmarked (s .marks) u) ∙ (λ i. record { actions = 0; flash = replace-same (toBytes (s .first)) (toBytes (s .size)) (m .flash) fits i }))
+    let none : countsOf (s .marks) ≡ countsOf [] = sym (counts-right (length (m .flash)) (length (m .memory)) s t) ∙ counts-same (s .counts) (countsOf []) u in
+    sym (ap (flushed-by m) (flush-uncounted (s .marks) none) ∙ (λ i. record { actions = 0; flash = replace-same (toBytes (s .first)) (toBytes (s .size)) (m .flash) fits i }))
     ∙ flushed-all m t

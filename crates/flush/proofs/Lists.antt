@@ -13,7 +13,8 @@ use lib.Seq.{take-suc, take-append-le, drop-append-le, drop-append-add, split-at
 use borrow.Author.Tests.{ne-eqb, eqb-true, leb-true}
 use Rattle.units.proofs.Cases.{decided, chosen, both}
 use Rattle.soundness.specs.Soundness.{marksSound}
-use Rattle.session.specs.Marks.{erases, programs, isMarked, marksOf}
+use Rattle.session.specs.declared.Counts.{Counts}
+use Rattle.session.specs.Marks.{erases, programs, isMarked, marksOf, countsOf}
 use Rattle.flush.specs.Actions.{Action, erase, program, pagesFrom, blockActions, actionsFrom, flushActions, perform, performAll}
 use Rattle.chip.specs.Actions.{eraseBlock, programPage}
 use Rattle.flush.specs.Locate.{nthOf, startOf}
@@ -218,6 +219,14 @@ actions-few (suc n) b (m ∷ ms) e =
 pub flush-unmarked : (ms : List ℕ) → marksSound zero ms ≡ true → flushActions ms ≡ []
 unfolding flushActions
 flush-unmarked ms e = none-marked 0 ms e
+
+pub flush-uncounted : (ms : List ℕ) → countsOf ms ≡ countsOf [] → flushActions ms ≡ []
+flush-uncounted ms e =
+    empty (flushActions ms) (flush-count ms ∙ ap (λ (n : Counts). 17 * n .dirty + n .erased) e)
+  where
+    empty : (actions : List Action) → length actions ≡ 0 → actions ≡ []
+    empty [] e = refl
+    empty (action ∷ actions) e = absurd (omega arith)
 
 pub flush-few : (n : ℕ) (ms : List ℕ) → marksSound n ms ≡ true → length (flushActions ms) ≤ 17 * n
 unfolding flushActions

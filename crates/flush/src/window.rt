@@ -2,8 +2,8 @@
 use crate::marked::flush_marked;
 use crate::marked::step_marked;
 use session::Session;
+use session::none_marked;
 use soundness::is_sound;
-use soundness::marks_are_sound;
 use units::Blocks;
 ghost use mathlib.Core.Path.{_≡_};
 ghost use Prim.Native.Nat.{_≤_};
@@ -47,9 +47,9 @@ pub fn flush_window(session: Session, flash: &mut [u8], memory: &[u8]) -> u32
     if !is_sound(session, flash.len(), memory.len()) {
         return 0;
     }
-    // one vector look at the marks, where nothing is marked, instead of 64 turns: half a microsecond of a create
-    let marks = session.marks;
-    if marks_are_sound(marks, 0) {
+    // two numbers instead of 64 turns, where nothing is marked: half a microsecond of a create
+    let counts = session.counts;
+    if none_marked(counts) {
         return 0;
     }
     flush_part(session, flash, memory)

@@ -20,7 +20,7 @@ use Rattle.soundness.proofs.Access.{acknowledged-access, suspended-sound, resum
 use Rattle.soundness.proofs.Facts.{sound-with, refitted-at, measured}
 use Rattle.soundness.proofs.SoundMarks.{clean-sound}
 use Rattle.session.specs.Suspension.{suspended, resumed, resumedChanged}
-use Rattle.session.specs.Marks.{dirty, erasedMark}
+use Rattle.session.specs.Marks.{dirty, erasedMark, countsOf}
 use Rattle.refusals.specs.declared.Reason.the-variants.{Accepted, System}
 use Rattle.registers.specs.Registers.{commandOf, argument, number}
 use Rattle.refusals.specs.declared.Needs.the-variants.{Access, WriteWindow}
@@ -55,8 +55,8 @@ module _ (setup : Setup) (s : Session) (registers flash memory : List ℕ) (e : 
   Keeps o = soundAt setup (length flash) (length memory) (o .machine .session) ≡ true
 
   fits : (t : Session) → t .version ≤ 2 → accessSound (t .suspended) (t .events) ≡ true → windowSound (t .window) (t .first) (t .size) (roundUp (length flash)) (roundUp (length memory)) ≡ true
-      → marksSound (markable (t .window) (t .size)) (t .marks) ≡ true → soundAt setup (length flash) (length memory) t ≡ true
-  fits t v a w m = refitted-at setup (length flash) (length memory) s t e v a w m
+      → marksSound (markable (t .window) (t .size)) (t .marks) ≡ true → t .counts ≡ countsOf (t .marks) → soundAt setup (length flash) (length memory) t ≡ true
+  fits t v a w m n = refitted-at setup (length flash) (length memory) s t e v a w m n
 
   known : s .version ≤ 2
   known = measured setup (length flash) (length memory) s e .fits .known
@@ -69,6 +69,9 @@ module _ (setup : Setup) (s : Session) (registers flash memory : List ℕ) (e : 
 
   marks : marksSound (markable (s .window) (s .size)) (s .marks) ≡ true
   marks = measured setup (length flash) (length memory) s e .fits .marks
+
+  counts : s .counts ≡ countsOf (s .marks)
+  counts = measured setup (length flash) (length memory) s e .fits .counts
 
   some : 1 ≤ roundUp (length memory)
   some = measured setup (length flash) (length memory) s e .memory-sized .some
@@ -83,7 +86,7 @@ module _ (setup : Setup) (s : Session) (registers flash memory : List ℕ) (e : 
       let f = size-fits (roundUp (length flash)) (roundUp (length memory)) o n h in
       fits (created w setup registers (lent (numbered s registers) flash memory) .machine .session) known access
       (active o z ∙ rw (le-leb 1 z (size-some (roundUp (length flash)) (roundUp (length memory)) o n h some), le-leb z (roundUp (length memory)) (f .1), le-leb (o + z) (roundUp (length flash)) (f .0)))
-      (clean-sound (markable w z) 64)
+      (clean-sound (markable w z) 64) refl
 
   -- new marks in a write window
   marked-keeps : (mark : ℕ) → leb mark 2 ≡ true → s .window ≡ Write → blocksNamed s registers .inside ≡ true
@@ -93,21 +96,22 @@ module _ (setup : Setup) (s : Session) (registers flash memory : List ℕ) (e : 
       fits (marked mark (numbered s registers) registers) known access window
       (ap (λ (n : ℕ). marksSound n (marked mark (numbered s registers) registers .marks)) limit
       ∙ marked-sound mark fine (s .size) (blocksNamed s registers .start) (blocksNamed s registers .count) (s .marks) (named-within s registers inside) (ap (λ (n : ℕ). marksSound n (s .marks)) (sym limit) ∙ marks))
+      refl
 
   -- a FLUSH, with or without marks of its own
   flush-keeps : (adds : Bool)
       → soundAt setup (length flash) (length memory) (withMarks clean (cond adds (marked dirty (numbered s registers) registers) (numbered s registers))) ≡ true
-  flush-keeps true = fits (withMarks clean (numbered s registers)) known access window (clean-sound (markable (s .window) (s .size)) 64)
-  flush-keeps false = fits (withMarks clean (numbered s registers)) known access window (clean-sound (markable (s .window) (s .size)) 64)
+  flush-keeps true = fits (withMarks clean (numbered s registers)) known access window (clean-sound (markable (s .window) (s .size)) 64) refl
+  flush-keeps false = fits (withMarks clean (numbered s registers)) known access window (clean-sound (markable (s .window) (s .size)) 64) refl
 
   numbered-keeps : soundAt setup (length flash) (length memory) (numbered s registers) ≡ true
-  numbered-keeps = fits (numbered s registers) known access window marks
+  numbered-keeps = fits (numbered s registers) known access window marks counts
 
   drop-keeps : soundAt setup (length flash) (length memory) (dropWindow (numbered s registers)) ≡ true
-  drop-keeps = fits (dropWindow (numbered s registers)) known access refl (clean-sound 0 64)
+  drop-keeps = fits (dropWindow (numbered s registers)) known access refl (clean-sound 0 64) refl
 
   version-keeps : soundAt setup (length flash) (length memory) (withVersion (min (argument 0 registers) 2) (numbered s registers)) ≡ true
-  version-keeps = fits (withVersion (min (argument 0 registers) 2) (numbered s registers)) (omega arith) access window marks
+  version-keeps = fits (withVersion (min (argument 0 registers) 2) (numbered s registers)) (omega arith) access window marks counts
 
   -- a command that no check refused, by its row
   abbrev Served : Command → Type 0
@@ -137,7 +141,7 @@ module _ (setup : Setup) (s : Session) (registers flash memory : List ℕ) (e : 
       (create-served (createWriteWindow .code) Write (λ o z. refl))
       (marked-served (from 1 (s .version)) dirty refl)
       (λ t a. flush-keeps (flushMarks (numbered s registers) registers))
-      (λ t a. fits (ackAnswer (numbered s registers) registers .session) known (acknowledged-access (s .suspended) (argument 0 registers) (s .events) access) window marks)
+      (λ t a. fits (ackAnswer (numbered s registers) registers .session) known (acknowledged-access (s .suspended) (argument 0 registers) (s .events) access) window marks counts)
       (marked-served (from 2 (s .version)) erasedMark refl)
       (λ n t a. absurd (false≢true (passed t s registers false Access false a .knows)))
 
@@ -167,7 +171,7 @@ unfolding soundAt sound sessionSound
 fresh-sound setup flash memory sizes most = rw (sizes, le-leb _ _ most)
 
 -- a command that is not refused with SYSTEM_ERROR is sent to a sound session
-sounds-unless : (setup : Setup) (registers : List ℕ) (m : Machine) → (reasonIn setup registers m ≡ System → ⊥) → soundIn setup m ≡ true
+pub sounds-unless : (setup : Setup) (registers : List ℕ) (m : Machine) → (reasonIn setup registers m ≡ System → ⊥) → soundIn setup m ≡ true
 unfolding reasonFor
 sounds-unless setup registers m fine =
     ⊎-elim (λ (e : soundIn setup m ≡ true). e) (λ (e : soundIn setup m ≡ false). absurd (fine (rw e))) (decided (soundIn setup m))

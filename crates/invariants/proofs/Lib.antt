@@ -6,5 +6,6 @@ pub mod Flags
 pub mod Kept
 mod MarksKept
 pub mod Memory
+pub mod Pending
 pub mod Refused
 pub mod Runs

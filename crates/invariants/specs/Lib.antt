@@ -4,5 +4,6 @@ pub mod Events
 pub mod Flags
 pub mod Kept
 pub mod Memory
+pub mod Pending
 pub mod Refused
 pub mod Runs

@@ -11,6 +11,7 @@ use borrow.Author.Fill.{fill-more}
 use Rattle.buffers.specs.Ranges.{replace}
 use Rattle.units.specs.Units.{toBytes}
 use Rattle.session.specs.declared.Session.{Session}
+use Rattle.session.specs.Marks.{countsOf}
 use Rattle.refusals.specs.Refusals.{blocksNamed}
 use Rattle.refusals.proofs.Accepting.{named-within}
 use Rattle.mailbox.specs.Commands.{numbered}
@@ -27,6 +28,10 @@ pub named-bytes-fit : (s t : Session) (registers : List ℕ) (long : ℕ) → t 
 named-bytes-fit s t registers long e inside fits =
     let within = named-fit s t registers (s .size) e inside (le-refl (s .size)) in
     omega (arith, within, fits)
+
+-- the kept numbers of that session
+pub named-counts : (s t : Session) (registers : List ℕ) → t ≡ numbered s registers → s .counts ≡ countsOf (s .marks) → t .counts ≡ countsOf (t .marks)
+named-counts s t registers e n = subst (λ (u : Session). u .counts ≡ countsOf (u .marks)) (sym e) n
 
 -- a store past the front of a list
 set-append-add : (xs ys : List ℕ) (i a : ℕ) → set (xs ++ ys) (length xs + i) a ≡ xs ++ set ys i a

@@ -10,6 +10,7 @@ use borrow.Author.Tests.{eqb-true, ne-eqb}
 use Rattle.units.specs.Units.{toBytes, roundUp}
 use Rattle.units.proofs.Cases.{chosen}
 use Rattle.session.specs.Machine.{Setup, Machine}
+use Rattle.session.specs.Marks.{countsOf}
 use Rattle.soundness.specs.Soundness.{sizeSound, soundIn}
 use Rattle.soundness.proofs.Facts.{sizes, part-within, measured}
 use Rattle.refusals.specs.declared.Reason.{Reason}
@@ -119,6 +120,7 @@ pub record Fits (m : Machine) : Type 0 where
   pub memory-sound : sizeSound 64 (length (m .memory)) ≡ true
   pub few : m .session .size ≤ 64
   pub room : toBytes (m .session .size) ≤ length (m .memory)
+  pub counts : m .session .counts ≡ countsOf (m .session .marks)
 
 pub call-fits : (setup : Setup) (m : Machine) → soundIn setup m ≡ true → Fits m
 call-fits setup m e =
@@ -129,4 +131,5 @@ call-fits setup m e =
       memory-sound = p .1;
       few = le-trans (z .fits .in-memory) (z .memory-sized .few);
       room = part-within (length (m .flash)) (length (m .memory)) (m .session) (z .sound) .1;
+      counts = z .fits .counts;
     }

@@ -13,22 +13,25 @@ use refusals::flush_marks;
 use refusals::flush_outside;
 use refusals::reason_for;
 use registers::NO_ARGUMENTS;
-use session::CLEAN;
+use session::Counts;
 use session::DIRTY;
 use session::ERASED;
 use session::Session;
 use session::acknowledge_events;
+use session::of_kind;
 use session::with_access;
 use session::with_marks;
+use session::without_marks;
 use units::Blocks;
 ghost use mathlib.Core.Path.{_≡_};
 ghost use mathlib.Core.Bool.{true};
-ghost use Prim.Native.Nat.{ℕ, _+_, _≤_};
+ghost use Prim.Native.Nat.{ℕ, _+_, _≤_, _<_};
 ghost use mathlib.Core.List.{List};
-ghost use lib.ListN.{length, replicate};
+ghost use lib.ListN.{length, getD, set, replicate};
 ghost use Rattle.buffers.specs.Ranges.{replace};
 ghost use Rattle.units.specs.Units.{toBytes};
 ghost use Rattle.session.specs.Machine.{lent};
+ghost use Rattle.session.specs.Marks.{dirty, erasedMark, ofKind, countsOf};
 ghost use Rattle.refusals.specs.Refusals.{blocksNamed, flushMarks};
 ghost use Rattle.mailbox.specs.Commands.{outcome, marked, flushedAll, flushed, erasedOutcome};
 ghost use Rattle.mailbox.specs.Table.{markDirty, flush, ack, erase};
@@ -36,7 +39,7 @@ ghost use Rattle.mailbox.specs.Calls.{obeyedBy};
 
 // MARK_DIRTY: the named blocks are marked dirty, if they lie in the window.
 pub(crate) fn mark_dirty(known: bool, call: Call) -> Answer
-    requires { ⌜ call .session .size ≤ 64 ⌝ }
+    requires { ⌜ (call .session .size ≤ 64) × (call .session .counts ≡ countsOf (call .session .marks)) ⌝ }
     ensures { λ r. ⌜ ((flash memory : List ℕ) → known ≡ markDirty .known (call .session .version)
         → outcome r flash memory ≡ obeyedBy markDirty call flash memory) ⌝ }
 {
@@ -54,6 +57,7 @@ pub(crate) fn mark_dirty(known: bool, call: Call) -> Answer
 // ERASE: the named blocks are marked erased and become FF in the window memory, if they lie in the window.
 pub(crate) fn erase(known: bool, call: Call, memory: &mut [u8]) -> Answer
     requires { ⌜ (call .session .size ≤ 64) × (toBytes (call .session .size) ≤ length (now memory)) ⌝ }
+    requires { ⌜ call .session .counts ≡ countsOf (call .session .marks) ⌝ }
     ensures { λ r. ⌜ ((flash : List ℕ) → known ≡ erase .known (call .session .version)
         → outcome r flash (now (memory .exit)) ≡ obeyedBy erase call flash (now (memory .entry))) ⌝ }
 {
@@ -69,7 +73,7 @@ pub(crate) fn erase(known: bool, call: Call, memory: &mut [u8]) -> Answer
 
 // FLUSH: the marked blocks are flushed, if those that it marks itself lie in the window.
 pub(crate) fn flush(known: bool, call: Call, flash: &mut [u8], memory: &[u8]) -> Answer
-    requires { ⌜ call .session .size ≤ 64 ⌝ }
+    requires { ⌜ (call .session .size ≤ 64) × (call .session .counts ≡ countsOf (call .session .marks)) ⌝ }
     ensures { λ r. ⌜ (known ≡ flush .known (call .session .version)
         → outcome r (now (flash .exit)) (now (memory .entry)) ≡ obeyedBy flush call (now (flash .entry)) (now (memory .entry))) ⌝ }
 {
@@ -103,6 +107,7 @@ pub(crate) fn acknowledge(call: Call) -> Answer
 fn erase_named(session: Session, registers: [u8; 16], memory: &mut [u8]) -> Answer
     requires { ⌜ blocksNamed session registers .start + blocksNamed session registers .count ≤ 64 ⌝ }
     requires { ⌜ toBytes (blocksNamed session registers .start) + toBytes (blocksNamed session registers .count) ≤ length (now memory) ⌝ }
+    requires { ⌜ session .counts ≡ countsOf (session .marks) ⌝ }
     ensures { λ r. ⌜ ((flash : List ℕ) → outcome r flash (now (memory .exit)) ≡ erasedOutcome registers (lent session flash (now (memory .entry)))) ⌝ }
 {
     let named = blocks_named(session, registers);
@@ -121,6 +126,7 @@ fn erase_named(session: Session, registers: [u8; 16], memory: &mut [u8]) -> Answ
 // The marked blocks are flushed; at version 1 the named ones are marked dirty first.
 fn flush_named(session: Session, registers: [u8; 16], flash: &mut [u8], memory: &[u8]) -> Answer
     requires { ⌜ (flushMarks session registers ≡ true → blocksNamed session registers .start + blocksNamed session registers .count ≤ 64) ⌝ }
+    requires { ⌜ session .counts ≡ countsOf (session .marks) ⌝ }
     ensures { λ r. ⌜ outcome r (now (flash .exit)) (now (memory .entry)) ≡ flushed registers (lent session (now (flash .entry)) (now (memory .entry))) ⌝ }
 {
     if flush_marks(session, registers) {
@@ -138,37 +144,60 @@ fn flush_all(session: Session, registers: [u8; 16], flash: &mut [u8], memory: &[
     ensures { λ r. ⌜ outcome r (now (flash .exit)) (now (memory .entry)) ≡ flushedAll registers (lent session (now (flash .entry)) (now (memory .entry))) ⌝ }
 {
     let actions = flush_window(session, flash, memory);
-    answer(
-        with_marks(session, [CLEAN; 64]),
-        registers,
-        1,
-        NO_ARGUMENTS,
-        actions,
-    )
+    answer(without_marks(session), registers, 1, NO_ARGUMENTS, actions)
 }
 
 // The session with one mark at each named block.
 fn mark_named(session: Session, registers: [u8; 16], mark: u8) -> Session
     requires { ⌜ blocksNamed session registers .start + blocksNamed session registers .count ≤ 64 ⌝ }
+    requires { ⌜ session .counts ≡ countsOf (session .marks) ⌝ }
     ensures { λ r. ⌜ r ≡ marked mark session registers ⌝ }
 {
     let named = blocks_named(session, registers);
     let marks = session.marks;
-    let after = mark_blocks(marks, named.start as usize, named.count as usize, mark);
-    with_marks(session, after)
+    let counts = session.counts;
+    let marking = mark_blocks(
+        Marking { marks, counts },
+        named.start as usize,
+        named.count as usize,
+        mark,
+    );
+    let after = marking.marks;
+    with_marks(session, after, marking.counts)
 }
 
-// The marks with one value from a block on.
-fn mark_blocks(marks: [u8; 64], start: usize, count: usize, mark: u8) -> [u8; 64]
+// Marks, and their numbers.
+pub struct Marking {
+    pub marks: [u8; 64],
+    pub counts: Counts,
+}
+
+// One mark from a block on. What it replaces is counted where it is replaced, so that no other mark is looked at.
+fn mark_blocks(marking: Marking, start: usize, count: usize, mark: u8) -> Marking
     requires { ⌜ start + count ≤ 64 ⌝ }
-    ensures { λ r. ⌜ r ≡ replace start (replicate count mark) marks ⌝ }
+    requires { ⌜ marking .counts ≡ countsOf (marking .marks) ⌝ }
+    ensures { λ r. ⌜ (r .marks ≡ replace start (replicate count mark) (marking .marks)) × (r .counts ≡ countsOf (r .marks)) ⌝ }
 {
-    let mut after = marks;
+    let mut marks = marking.marks;
+    let mut counts = marking.counts;
     let mut i = 0;
     while i < count {
         let at = start + i;
-        after[at] = mark;
+        counts = recount(counts, marks[at], mark);
+        marks[at] = mark;
         i += 1;
     }
-    after
+    Marking { marks, counts }
+}
+
+// The numbers of some marks, with one of them replaced.
+fn recount(counts: Counts, old: u8, mark: u8) -> Counts
+    requires { ⌜ (ofKind dirty old ≤ counts .dirty) × (ofKind erasedMark old ≤ counts .erased) ⌝ }
+    requires { ⌜ (counts .dirty ≤ 64) × (counts .erased ≤ 64) ⌝ }
+    ensures { λ r. ⌜ ((marks : List ℕ) (at : ℕ) → at < length marks → getD marks at 0 ≡ old → counts ≡ countsOf marks → r ≡ countsOf (set marks at mark)) ⌝ }
+{
+    Counts {
+        dirty: counts.dirty - of_kind(old, DIRTY) + of_kind(mark, DIRTY),
+        erased: counts.erased - of_kind(old, ERASED) + of_kind(mark, ERASED),
+    }
 }

@@ -11,13 +11,14 @@ use borrow.Author.Tests.{leb-true}
 use Rattle.units.specs.Units.{toBytes}
 use Rattle.units.proofs.Cases.{decided, both}
 use Rattle.chip.specs.Actions.{erased}
+use Rattle.session.specs.declared.Counts.{Counts}
 use Rattle.session.specs.declared.Session.{Session}
 use Rattle.session.specs.declared.Window.the-variants.{Write}
 use Rattle.session.specs.Machine.{Setup, Machine, lent}
-use Rattle.session.specs.Marks.{dirty, erasedMark}
-use Rattle.session.specs.Record.{clean, fresh, withVersion, withMarks}
+use Rattle.session.specs.Marks.{dirty, erasedMark, countsOf}
+use Rattle.session.specs.Record.{clean, fresh, withVersion, withCounted, withMarks}
 use Rattle.soundness.specs.Soundness.{sizesSound, sound, sessionSound, soundAt}
-use Rattle.soundness.proofs.Facts.{part-within}
+use Rattle.soundness.proofs.Facts.{part-within, counts-right}
 use Rattle.flush.specs.Actions.{Action, flushActions, actionsFrom, blockActions}
 use Rattle.flush.specs.Window.{windowActions, performIn, flushWhole}
 use Rattle.flush.proofs.Whole.{in-none}
@@ -100,10 +101,12 @@ unfolding flushWhole sound sessionSound performIn
 flush-kept s registers memory flash e = rw e
 
 -- the session with the marks that it works from
-flush-from : (s : Session) (registers : List ℕ) (adds : Bool) → cond adds (marked dirty s registers) s .marks ≡ s .marks
+flush-from : (s : Session) (registers : List ℕ) (adds : Bool) → cond adds (marked dirty s registers) s .marks ≡ s .marks → s .counts ≡ countsOf (s .marks)
     → cond adds (marked dirty (numbered s registers) registers) (numbered s registers) ≡ numbered s registers
-flush-from s registers true same = ap (λ (marks : List ℕ). withMarks marks (numbered s registers)) same
-flush-from s registers false same = refl
+flush-from s registers true same counts =
+    ap (λ (marks : List ℕ). withMarks marks (numbered s registers)) same
+    ∙ ap (λ (n : Counts). withCounted (s .marks) n (numbered s registers)) (sym counts)
+flush-from s registers false same counts = refl
 
 pub flush-leaves : (setup : Setup) (s : Session) (registers flash memory : List ℕ) → commandOf registers ≡ flush .code
     → getD (mediate setup registers (lent s flash memory) .registers) 13 0 ≡ 1 → flushing s registers .marks ≡ s .marks
@@ -111,7 +114,7 @@ pub flush-leaves : (setup : Setup) (s : Session) (registers flash memory : List 
 unfolding commandAt
 flush-leaves setup s registers flash memory c ok none e =
     ap (λ (o : Outcome). o .machine .flash) (carried setup registers (lent s flash memory) (flush .code) c (accepted setup s registers flash memory ok))
-    ∙ ap (λ (t : Session). flushedAll registers (lent t flash memory) .machine .flash) (flush-from s registers (flushMarks s registers) none)
+    ∙ ap (λ (t : Session). flushedAll registers (lent t flash memory) .machine .flash) (flush-from s registers (flushMarks s registers) none (counts-right (length flash) (length memory) s e))
     ∙ flush-kept s registers memory flash e
 
 -- ---- a machine with the window open again

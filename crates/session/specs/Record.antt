@@ -4,6 +4,8 @@ use Prim.Native.Nat.{ℕ}
 use mathlib.Core.Bool.{Bool, false}
 use mathlib.Core.List.{List}
 use lib.ListN.{replicate}
+use Rattle.session.specs.Marks.{countsOf}
+use Rattle.session.specs.declared.Counts.{Counts}
 use Rattle.session.specs.declared.Session.{Session}
 use Rattle.session.specs.declared.Window.{Window}
 use Rattle.session.specs.declared.Window.the-variants.{Closed}
@@ -25,6 +27,7 @@ fresh =
       window = Closed;
       first = 0;
       size = 0;
+      counts = countsOf clean;
       marks = clean;
     }
 
@@ -39,6 +42,7 @@ withVersion version s =
       window = s .window;
       first = s .first;
       size = s .size;
+      counts = s .counts;
       marks = s .marks;
     }
 
@@ -53,6 +57,7 @@ withPrevious previous s =
       window = s .window;
       first = s .first;
       size = s .size;
+      counts = s .counts;
       marks = s .marks;
     }
 
@@ -67,15 +72,16 @@ withAccess suspended events s =
       window = s .window;
       first = s .first;
       size = s .size;
+      counts = s .counts;
       marks = s .marks;
     }
 
 abbrev pub withEvents : ℕ → Session → Session
 withEvents events s = withAccess (s .suspended) events s
 
--- the marks
-abbrev pub withMarks : List ℕ → Session → Session
-withMarks marks s =
+-- the marks, and the numbers kept of them
+abbrev pub withCounted : List ℕ → Counts → Session → Session
+withCounted marks counts s =
     record {
       version = s .version;
       previous = s .previous;
@@ -84,8 +90,13 @@ withMarks marks s =
       window = s .window;
       first = s .first;
       size = s .size;
+      counts = counts;
       marks = marks;
     }
+
+-- the marks, with their own numbers
+abbrev pub withMarks : List ℕ → Session → Session
+withMarks marks s = withCounted marks (countsOf marks) s
 
 -- another window, with "all marks 0"
 abbrev pub withWindow : Window → ℕ → ℕ → Session → Session
@@ -98,6 +109,7 @@ withWindow window first size s =
       window = window;
       first = first;
       size = size;
+      counts = countsOf clean;
       marks = clean;
     }
 

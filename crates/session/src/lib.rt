@@ -14,11 +14,15 @@ pub use marks::DIRTY;
 pub use marks::ERASED;
 pub use marks::mark_erases;
 pub use marks::mark_programs;
+pub use marks::none_marked;
+pub use marks::of_kind;
+pub use marks::same_counts;
 pub use setters::with_access;
 pub use setters::with_marks;
 pub use setters::with_previous;
 pub use setters::with_version;
 pub use setters::with_window;
+pub use setters::without_marks;
 pub use setters::without_window;
 pub use suspension::Suspension;
 pub use suspension::resume;
@@ -46,6 +50,12 @@ pub struct Board {
     pub timeout: u16,
 }
 
+// How many blocks have each kind of mark.
+pub struct Counts {
+    pub dirty: u8,
+    pub erased: u8,
+}
+
 // A session.
 pub struct Session {
     pub version: u8,
@@ -55,6 +65,7 @@ pub struct Session {
     pub window: Window,
     pub first: u16,
     pub size: u16,
+    pub counts: Counts,
     pub marks: [u8; 64],
 }
 
@@ -70,6 +81,10 @@ pub fn new_session() -> Session
         window: Window::Closed,
         first: 0,
         size: 0,
+        counts: Counts {
+            dirty: 0,
+            erased: 0,
+        },
         marks: [0; 64],
     }
 }

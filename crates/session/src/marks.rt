@@ -1,6 +1,7 @@
-// The marks of window blocks, by what they ask of a flush.
+// The marks of window blocks, by what they ask of a flush, and the numbers kept of them.
+use crate::Counts;
 ghost use mathlib.Core.Path.{_≡_};
-ghost use Rattle.session.specs.Marks.{erases, programs};
+ghost use Rattle.session.specs.Marks.{erases, programs, ofKind, sameCounts, noneMarked};
 
 // Nothing is asked.
 pub const CLEAN: u8 = 0;
@@ -26,4 +27,31 @@ pub fn mark_programs(mark: u8) -> bool
     ensures { λ r. ⌜ r ≡ programs mark ⌝ }
 {
     mark == DIRTY
+}
+
+// What a mark counts among those of a kind: 1 if it is one, else 0.
+pub fn of_kind(mark: u8, kind: u8) -> u8
+    ensures { λ r. ⌜ r ≡ ofKind kind mark ⌝ }
+{
+    if mark == kind { 1 } else { 0 }
+}
+
+// Whether two numbers of each kind are the same.
+pub fn same_counts(counts: Counts, others: Counts) -> bool
+    ensures { λ r. ⌜ r ≡ sameCounts counts others ⌝ }
+{
+    if counts.dirty != others.dirty {
+        return false;
+    }
+    counts.erased == others.erased
+}
+
+// Whether no block is marked, by the numbers.
+pub fn none_marked(counts: Counts) -> bool
+    ensures { λ r. ⌜ r ≡ noneMarked counts ⌝ }
+{
+    if counts.dirty != 0 {
+        return false;
+    }
+    counts.erased == 0
 }

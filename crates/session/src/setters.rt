@@ -1,10 +1,11 @@
 // The session with some of its fields changed. A new field of the session is named here, in `new_session` and
 // in C's record (crate board).
+use crate::Counts;
 use crate::Previous;
 use crate::Session;
 use crate::Window;
 ghost use mathlib.Core.Path.{_≡_};
-ghost use Rattle.session.specs.Record.{withVersion, withPrevious, withAccess, withMarks, withWindow, dropWindow};
+ghost use Rattle.session.specs.Record.{withVersion, withPrevious, withAccess, withCounted, withMarks, withWindow, dropWindow, clean};
 
 // Another agreed version.
 pub fn with_version(session: Session, version: u8) -> Session
@@ -20,6 +21,7 @@ pub fn with_previous(session: Session, previous: Previous) -> Session
     ensures { λ r. ⌜ r ≡ withPrevious previous session ⌝ }
 {
     let window = session.window;
+    let counts = session.counts;
     let marks = session.marks;
     Session {
         version: session.version,
@@ -29,6 +31,7 @@ pub fn with_previous(session: Session, previous: Previous) -> Session
         window,
         first: session.first,
         size: session.size,
+        counts,
         marks,
     }
 }
@@ -43,13 +46,28 @@ pub fn with_access(session: Session, suspended: bool, events: u8) -> Session
     next
 }
 
-// Other marks.
-pub fn with_marks(session: Session, marks: [u8; 64]) -> Session
-    ensures { λ r. ⌜ r ≡ withMarks marks session ⌝ }
+// Other marks, and the numbers kept of them.
+pub fn with_marks(session: Session, marks: [u8; 64], counts: Counts) -> Session
+    ensures { λ r. ⌜ r ≡ withCounted marks counts session ⌝ }
 {
     let mut next = session;
+    next.counts = counts;
     next.marks = marks;
     next
+}
+
+// Nothing marked.
+pub fn without_marks(session: Session) -> Session
+    ensures { λ r. ⌜ r ≡ withMarks clean session ⌝ }
+{
+    with_marks(
+        session,
+        [0; 64],
+        Counts {
+            dirty: 0,
+            erased: 0,
+        },
+    )
 }
 
 // Another window, with nothing marked.
@@ -65,6 +83,10 @@ pub fn with_window(session: Session, window: Window, first: u16, size: u16) -> S
         window,
         first,
         size,
+        counts: Counts {
+            dirty: 0,
+            erased: 0,
+        },
         marks: [0; 64],
     }
 }

@@ -44,12 +44,12 @@ module _ (flash memory : ℕ) (s : Session) (e : sound flash memory s ≡ true) 
   pub suspended-sound : sound flash memory (suspended s .session) ≡ true
   suspended-sound =
       let t = withAccess true (setBits controlLost (s .events)) s in
-      either (not (s .suspended)) t (refitted flash memory s t e (f .known) (set-bit controlLost (s .events)) (f .window) (f .marks))
+      either (not (s .suspended)) t (refitted flash memory s t e (f .known) (set-bit controlLost (s .events)) (f .window) (f .marks) (f .counts))
 
   pub resumed-sound : sound flash memory (resumed s .session) ≡ true
   resumed-sound =
       let t = withAccess false (clearBits controlLost (s .events)) s in
-      either (s .suspended) t (refitted flash memory s t e (f .known) (cleared (s .events)) (f .window) (f .marks))
+      either (s .suspended) t (refitted flash memory s t e (f .known) (cleared (s .events)) (f .window) (f .marks) (f .counts))
 
   pub changed-sound : sound flash memory (resumedChanged s .session) ≡ true
   changed-sound =
@@ -60,4 +60,4 @@ module _ (flash memory : ℕ) (s : Session) (e : sound flash memory s ≡ true) 
       (same-access false events (clearBits controlLost (s .events))
       (same-bit windowReset controlLost events (clearBits controlLost (s .events)) refl (set-within windowReset windowReset (clearBits controlLost (s .events)) refl))
       ∙ cleared (s .events))
-      refl (clean-sound 0 64))
+      refl (clean-sound 0 64) refl)

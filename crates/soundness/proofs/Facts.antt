@@ -11,6 +11,8 @@ use Rattle.session.specs.declared.Session.{Session}
 use Rattle.session.specs.declared.Window.{Window}
 use Rattle.session.specs.declared.Window.the-variants.{Closed, Read, Write}
 use Rattle.session.specs.Machine.{Setup}
+use Rattle.session.specs.Marks.{countsOf}
+use Rattle.soundness.proofs.Counting.{counts-same, same-counts}
 use Rattle.soundness.specs.Soundness.{sizeSound, sizesSound, accessSound, activeSound, windowSound, markable, marksSound, sessionSound, sound, soundAt}
 
 -- a buffer of whole blocks
@@ -62,6 +64,7 @@ pub record Fitting (S C : ℕ) (s : Session) : Type 0 where
   pub in-memory : s .size ≤ C
   pub window : windowSound (s .window) (s .first) (s .size) S C ≡ true
   pub marks : marksSound (markable (s .window) (s .size)) (s .marks) ≡ true
+  pub counts : s .counts ≡ countsOf (s .marks)
 
 pub fitting : (S C : ℕ) (s : Session) → sessionSound S C s ≡ true → Fitting S C s
 unfolding sessionSound
@@ -69,15 +72,29 @@ fitting S C s e =
     let p = both _ _ e in
     let a = both _ _ (p .1) in
     let q = both _ _ (a .1) in
+    let m = both _ _ (q .1) in
     let w = window-within (s .window) (s .first) (s .size) S C (q .0) in
-    record { known = leb-true _ _ (p .0); access = a .0; in-flash = w .0; in-memory = w .1; window = q .0; marks = q .1 }
+    record {
+      known = leb-true _ _ (p .0);
+      access = a .0;
+      in-flash = w .0;
+      in-memory = w .1;
+      window = q .0;
+      marks = m .0;
+      counts = counts-same (s .counts) (countsOf (s .marks)) (m .1);
+    }
+
+-- the kept numbers are those of the marks
+pub counts-right : (flash memory : ℕ) (s : Session) → sound flash memory s ≡ true → s .counts ≡ countsOf (s .marks)
+counts-right flash memory s e = fitting (roundUp flash) (roundUp memory) s (sizes flash memory s e .2) .counts
 
 -- and the other way: a session that fits the sizes of a sound one is sound
 pub refitted : (flash memory : ℕ) (s t : Session) → sound flash memory s ≡ true → t .version ≤ 2
     → accessSound (t .suspended) (t .events) ≡ true → windowSound (t .window) (t .first) (t .size) (roundUp flash) (roundUp memory) ≡ true → marksSound (markable (t .window) (t .size)) (t .marks) ≡ true
-    → sound flash memory t ≡ true
+    → t .counts ≡ countsOf (t .marks) → sound flash memory t ≡ true
 unfolding sound sessionSound
-refitted flash memory s t e v a w m = rw (both (sizesSound flash memory) _ e .0, le-leb (t .version) 2 v, a, w, m)
+refitted flash memory s t e v a w m n =
+    rw (both (sizesSound flash memory) _ e .0, le-leb (t .version) 2 v, a, w, m) (same-counts (t .counts) (countsOf (t .marks)) n)
 
 -- and with B, which no session has a part in
 pub sound-with : (setup : Setup) (flash memory : ℕ) (s t : Session) → soundAt setup flash memory s ≡ true → sound flash memory t ≡ true
@@ -87,10 +104,10 @@ sound-with setup flash memory s t e h = rw (both (sound flash memory s) _ e .1, 
 
 pub refitted-at : (setup : Setup) (flash memory : ℕ) (s t : Session) → soundAt setup flash memory s ≡ true → t .version ≤ 2
     → accessSound (t .suspended) (t .events) ≡ true → windowSound (t .window) (t .first) (t .size) (roundUp flash) (roundUp memory) ≡ true → marksSound (markable (t .window) (t .size)) (t .marks) ≡ true
-    → soundAt setup flash memory t ≡ true
+    → t .counts ≡ countsOf (t .marks) → soundAt setup flash memory t ≡ true
 unfolding soundAt
-refitted-at setup flash memory s t e v a w m =
-    sound-with setup flash memory s t e (refitted flash memory s t (both (sound flash memory s) _ e .0) v a w m)
+refitted-at setup flash memory s t e v a w m n =
+    sound-with setup flash memory s t e (refitted flash memory s t (both (sound flash memory s) _ e .0) v a w m n)
 
 -- and in bytes: the window's part lies in the flash, and its blocks in the window memory
 pub part-within : (flash memory : ℕ) (s : Session) → sound flash memory s ≡ true

@@ -1,3 +1,4 @@
 pub mod Access
+pub mod Counting
 pub mod Facts
 pub mod SoundMarks

@@ -1,4 +1,4 @@
--- Soundness: document 01, "Numbers" and the second paragraph of "Session", and 02, Ticket 1.
+-- Soundness: document 01, "Numbers" and the second paragraph of "Session", and 02, Tickets 1 and 2.
 use Prim.Native.Nat.{ℕ, zero, suc, _+_}
 use mathlib.Core.Bool.{Bool, true, false, not, _&&_}
 use mathlib.Core.List.{List, [], _∷_}
@@ -8,6 +8,7 @@ use Rattle.units.specs.Units.{toBytes, roundUp}
 use Rattle.session.specs.declared.Session.{Session}
 use Rattle.session.specs.Events.{controlLost, isSet}
 use Rattle.session.specs.Machine.{Setup, Machine}
+use Rattle.session.specs.Marks.{countsOf, sameCounts}
 use Rattle.session.specs.declared.Window.{Window}
 use Rattle.session.specs.declared.Window.the-variants.{Closed, Read, Write}
 
@@ -46,12 +47,17 @@ marksSound n [] = true
 marksSound zero (m ∷ ms) = leb m 0 && marksSound zero ms
 marksSound (suc n) (m ∷ ms) = leb m 2 && marksSound n ms
 
+-- "A session is sound only if they equal a full count of the marks": the kept numbers of dirty and of erased blocks (02, Ticket 2)
+abbrev pub countsSound : Session → Bool
+countsSound s = sameCounts (s .counts) (countsOf (s .marks))
+
 -- "It is sound when: the version is 0 to 2; .."
 unfoldable pub sessionSound : ℕ → ℕ → Session → Bool
 sessionSound S C s =
     leb (s .version) 2
     && (accessSound (s .suspended) (s .events)
-    && (windowSound (s .window) (s .first) (s .size) S C && marksSound (markable (s .window) (s .size)) (s .marks)))
+    && (windowSound (s .window) (s .first) (s .size) S C
+    && (marksSound (markable (s .window) (s .size)) (s .marks) && countsSound s)))
 
 -- the lent sizes, in bytes, and the session keep the numbers
 unfoldable pub sound : ℕ → ℕ → Session → Bool

@@ -1,17 +1,22 @@
-// When the lent sizes, B and a session are sound.
+// When the lent sizes, B and a session are sound, and how much of a session is pending.
 //
 // Every length and every session record gets an answer; what is not sound is SYSTEM_ERROR to a command and, B aside, 4 to a step.
+mod marks;
+mod pending_work;
+
+use marks::look_at;
+pub use pending_work::PendingWork;
+pub use pending_work::pending;
 use session::Board;
 use session::Session;
 use session::Window;
 use session::is_control_lost;
+use session::same_counts;
 use units::Bytes;
 ghost use mathlib.Core.Path.{_≡_};
 ghost use Prim.Native.Nat.{_<_};
-ghost use mathlib.Core.Bool.{cond};
-ghost use lib.Dec.{leb};
 ghost use Rattle.session.specs.Machine.{setUp};
-ghost use Rattle.soundness.specs.Soundness.{sound, soundAt, sizeSound, accessSound, activeSound, windowSound, markable, marksSound, sessionSound};
+ghost use Rattle.soundness.specs.Soundness.{sound, soundAt, sizeSound, accessSound, activeSound, windowSound, markable, sessionSound};
 
 // The most blocks of a flash and of a window memory, and how far the LPC blocks go.
 const MOST_FLASH: u32 = 65535;
@@ -75,7 +80,11 @@ fn session_is_sound(session: Session, flash: u32, memory: u32) -> bool
         return false;
     }
     let marks = session.marks;
-    marks_are_sound(marks, markable_blocks(window, session.size))
+    let look = look_at(marks, markable_blocks(window, session.size));
+    if !look.within {
+        return false;
+    }
+    same_counts(session.counts, look.counts)
 }
 
 // The event byte tells a suspension exactly while there is one.
@@ -120,36 +129,4 @@ fn markable_blocks(window: Window, size: u16) -> u16
         Window::Read => 0,
         Window::Write => size,
     }
-}
-
-// A limit of 64 or more is met by no mark.
-fn narrow(markable: u16) -> u8
-    ensures { λ r. ⌜ r ≡ cond (leb 64 markable) 64 markable ⌝ }
-{
-    if markable < 64 {
-        return markable as u8;
-    }
-    64
-}
-
-// The marks are those of a window of which so many blocks may be marked; with 0, that nothing is marked.
-//
-// All marks are looked at, whatever the first ones are: a loop without a way out, with a count as narrow as
-// a mark beside the place, compiles to a few vector instructions.
-pub fn marks_are_sound(marks: [u8; 64], markable: u16) -> bool
-    ensures { λ r. ⌜ r ≡ marksSound markable marks ⌝ }
-{
-    let limit = narrow(markable);
-    let mut all = true;
-    let mut n: u8 = 0;
-    let mut i = 0;
-    while i < 64 {
-        let most = if n < limit { 2 } else { 0 };
-        if most < marks[i] {
-            all = false;
-        }
-        n += 1;
-        i += 1;
-    }
-    all
 }

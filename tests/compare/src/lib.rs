@@ -18,7 +18,17 @@ pub struct Record {
     pub window: u8,
     pub first: u16,
     pub size: u16,
+    pub dirty: u8,
+    pub erased: u8,
     pub marks: [u8; 64],
+}
+
+impl Record {
+    /// The record with the numbers that its marks have.
+    pub fn counted(self) -> Record {
+        let of = |kind| self.marks.iter().filter(|mark| **mark == kind).count() as u8;
+        Record { dirty: of(1), erased: of(2), ..self }
+    }
 }
 
 #[repr(C)]
@@ -39,6 +49,14 @@ struct Stepped {
     acted: u8,
 }
 
+#[repr(C)]
+#[derive(Clone, Copy, Debug, PartialEq)]
+pub struct Unsaved {
+    pub unsound: u8,
+    pub blocks: u32,
+    pub actions: u32,
+}
+
 extern "C" {
     pub fn hiomap_fresh() -> Record;
     fn hiomap_command(record: *mut Record, registers: *mut [u8; 16], lpc: u16, timeout: u16, flash: Bytes, memory: Bytes) -> u32;
@@ -46,6 +64,7 @@ extern "C" {
     pub fn hiomap_resume(record: Record) -> Suspended;
     pub fn hiomap_resume_changed(record: Record) -> Suspended;
     fn hiomap_step(record: Record, flash: Bytes, memory: Bytes, done: u64) -> Stepped;
+    pub fn hiomap_pending(record: Record) -> Unsaved;
 }
 
 fn bytes(part: &mut [u8]) -> Bytes {
@@ -88,6 +107,16 @@ pub fn step(record: &Record, flash: &mut [u8], memory: &mut [u8], done: u64) -> 
     (answer.code, yes(answer.acted))
 }
 
+/// The marked blocks and the chip actions of their flush, unless a kept number disagrees with the marks.
+pub fn pending(record: &Record) -> Option<(u32, u32)> {
+    let answer = unsafe { hiomap_pending(*record) };
+    if yes(answer.unsound) {
+        assert!((answer.blocks, answer.actions) == (0, 0), "unsound, with {answer:?}");
+        return None;
+    }
+    Some((answer.blocks, answer.actions))
+}
+
 /// The record of a session of the second implementation, with the byte that stands where there is no previous number.
 pub fn record_of(s: &Session, spare: u8) -> Record {
     Record {
@@ -103,6 +132,8 @@ pub fn record_of(s: &Session, spare: u8) -> Record {
         },
         first: s.first,
         size: s.size,
+        dirty: s.dirty,
+        erased: s.erased,
         marks: s.marks,
     }
 }
@@ -123,6 +154,8 @@ pub fn session_of(r: &Record) -> Session {
         first: r.first,
         size: r.size,
         marks: r.marks,
+        dirty: r.dirty,
+        erased: r.erased,
     }
 }
 

@@ -1,4 +1,5 @@
-//! Both implementations side by side: the same record, flash and window memory, and every call made on both and compared.
+//! Both implementations side by side: the same record, flash and window memory, and every call made on both and compared. After each, both are
+//! asked how much is pending.
 
 use crate::{twin, Record};
 use std::fmt::{Arguments, Debug};
@@ -114,6 +115,10 @@ impl Pair {
         }
         if self.record[0] != self.record[1] {
             return Err(format!("{what}: record {:?}, the second implementation {:?}", self.record[0], self.record[1]));
+        }
+        let pending = (crate::pending(&self.record[0]), twin::pending(&self.record[1]));
+        if pending.0 != pending.1 {
+            return Err(format!("{what}: pending {:?}, the second implementation {:?}", pending.0, pending.1));
         }
         if self.flash[0] != self.flash[1] {
             return Err(format!("{what}: flash differs"));

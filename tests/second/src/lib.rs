@@ -1,8 +1,9 @@
 //! An independent second implementation of the controller's side of hiomap
 //! versions 1 and 2, written from document 01 and QUESTIONS.md alone, then
-//! brought to tickets 1 and 7 of 02, beside which only what the source documents
-//! 000, 002 and 004 say of events, ACK, windows and CLOSE was read. Ticket 5
-//! changes no answer. No other ticket is in.
+//! brought to tickets 1, 7 and 2 of 02, beside which only what the source
+//! documents 000, 002 and 004 say of events, ACK, windows and CLOSE was read,
+//! and what ticket 2's issue decides, from a brief that relayed it.
+//! Ticket 5 changes no answer. No other ticket is in.
 //! It is plain on purpose: it is there to be compared with.
 
 /// Bytes in a block, which is also the erase granule.
@@ -66,6 +67,10 @@ pub struct Session {
     pub first: u16,
     pub size: u16,
     pub marks: [u8; 64],
+    /// The number of marks that are 1 (ticket 2).
+    pub dirty: u8,
+    /// The number of marks that are 2 (ticket 2).
+    pub erased: u8,
 }
 
 impl Session {
@@ -79,6 +84,8 @@ impl Session {
             first: 0,
             size: 0,
             marks: [CLEAN; MARKS],
+            dirty: 0,
+            erased: 0,
         }
     }
 
@@ -87,7 +94,14 @@ impl Session {
         self.kind = Kind::Closed;
         self.first = 0;
         self.size = 0;
+        self.clear_marks();
+    }
+
+    /// All marks 0, and so both kept numbers, whatever they were (ticket 2).
+    fn clear_marks(&mut self) {
         self.marks = [CLEAN; MARKS];
+        self.dirty = 0;
+        self.erased = 0;
     }
 }
 
@@ -116,6 +130,17 @@ fn marks_sound(s: &Session) -> bool {
     })
 }
 
+/// How many of these marks are `mark`. They are 64 at most, so a byte holds it.
+fn count(marks: &[u8], mark: u8) -> u8 {
+    marks.iter().map(|&one| u8::from(one == mark)).sum()
+}
+
+/// The kept numbers equal a full count of the 64 marks (ticket 2), wherever
+/// these stand: `marks_sound` alone looks at the window.
+fn numbers_sound(s: &Session) -> bool {
+    s.dirty == count(&s.marks, DIRTY) && s.erased == count(&s.marks, ERASED)
+}
+
 /// Bit 0x40 is set exactly while access is suspended (ticket 1). The other
 /// bits are free.
 fn events_sound(s: &Session) -> bool {
@@ -123,7 +148,7 @@ fn events_sound(s: &Session) -> bool {
 }
 
 /// The sizes keep 01's numbers and the session is sound for them, by 01 and
-/// ticket 1.
+/// tickets 1 and 2.
 pub fn sound(s: &Session, flash_len: usize, window_len: usize) -> bool {
     match (whole_blocks(flash_len, 65_535), whole_blocks(window_len, MARKS)) {
         (Some(flash_blocks), Some(window_blocks)) => {
@@ -131,6 +156,7 @@ pub fn sound(s: &Session, flash_len: usize, window_len: usize) -> bool {
                 && events_sound(s)
                 && window_sound(s, flash_blocks, window_blocks)
                 && marks_sound(s)
+                && numbers_sound(s)
         }
         _ => false,
     }
@@ -139,6 +165,14 @@ pub fn sound(s: &Session, flash_len: usize, window_len: usize) -> bool {
 /// As `sound`, and B + C <= 65,536.
 pub fn sound_with_lpc(s: &Session, flash_len: usize, window_len: usize, b: u16) -> bool {
     sound(s, flash_len, window_len) && usize::from(b) + window_len / BLOCK <= 65_536
+}
+
+/// The lamp (ticket 2): how many blocks are marked and how many chip actions a
+/// flush would take, from the kept numbers. None, "unsound", exactly where these
+/// disagree with the marks; nothing else in the record is looked at.
+pub fn pending(s: &Session) -> Option<(u32, u32)> {
+    let (dirty, erased) = (u32::from(s.dirty), u32::from(s.erased));
+    numbers_sound(s).then_some((dirty + erased, 17 * dirty + erased))
 }
 
 /// Suspends access. This and both resumes go by the suspension and not by bit
@@ -261,7 +295,7 @@ fn flush(s: &mut Session, flash: &mut [u8], window: &[u8]) -> u32 {
     for &action in &list {
         perform(action, s.first, flash, window);
     }
-    s.marks = [CLEAN; MARKS];
+    s.clear_marks();
     list.len() as u32
 }
 
@@ -510,8 +544,18 @@ fn range_in_bytes(s: &Session, regs: &[u8; 16]) -> Option<Range> {
     inside.then(|| Range { from: (a - first) as usize, to: (a + k - first) as usize })
 }
 
+/// Marks these blocks, dirty or erased. The latest mark counts, so the old ones
+/// leave the kept numbers (ticket 2); the session being sound, they are in them.
 fn set_marks(s: &mut Session, range: Range, mark: u8) {
-    s.marks[range.from..range.to].fill(mark);
+    let marks = &mut s.marks[range.from..range.to];
+    s.dirty -= count(marks, DIRTY);
+    s.erased -= count(marks, ERASED);
+    marks.fill(mark);
+    let blocks = marks.len() as u8;
+    match mark {
+        DIRTY => s.dirty += blocks,
+        _ => s.erased += blocks,
+    }
 }
 
 fn mark_dirty(s: &mut Session, regs: &[u8; 16]) -> Answer {
@@ -852,6 +896,30 @@ flash 0 0 0 300
         rig.s.marks[..n].to_vec()
     }
 
+    /// Marks 1 and marks 2, counted one by one over all 64.
+    fn full_count(s: &Session) -> (u8, u8) {
+        let mut counts = (0, 0);
+        for mark in s.marks {
+            match mark {
+                1 => counts.0 += 1,
+                2 => counts.1 += 1,
+                _ => (),
+            }
+        }
+        counts
+    }
+
+    /// Makes the kept numbers right.
+    fn recount(s: &mut Session) {
+        (s.dirty, s.erased) = full_count(s);
+    }
+
+    /// Sets one mark by hand; the kept numbers are right afterwards.
+    fn put_mark(s: &mut Session, block: usize, mark: u8) {
+        s.marks[block] = mark;
+        recount(s);
+    }
+
     /// Sends, expects this refusal, and that it changed only the previous number.
     fn refuses(rig: &mut Rig, code: u8, args: &[u8], answer: u8) {
         let mut before = rig.clone();
@@ -977,7 +1045,7 @@ flash 0 0 0 300
         let old = rig.flash.clone();
         rig.window = pattern(2 * BLOCK, 7);
         let new = block(&rig.window, 1).to_vec();
-        rig.s.marks[1] = DIRTY;
+        put_mark(&mut rig.s, 1, DIRTY);
         let mut states = vec![block(&rig.flash, 3).to_vec()];
         for j in 0..17 {
             assert_eq!(rig.step(j), (SUCCESS, true));
@@ -997,7 +1065,7 @@ flash 0 0 0 300
     fn example_10_suspended_flush() {
         for (version, code) in [(2, 6), (1, 5)] {
             let mut rig = Rig::open(version, Kind::Write, 0, 2);
-            rig.s.marks[0] = DIRTY;
+            put_mark(&mut rig.s, 0, DIRTY);
             assert!(suspend(&mut rig.s));
             refuses(&mut rig, FLUSH, &[], code);
         }
@@ -1021,7 +1089,7 @@ flash 0 0 0 300
         program(&mut page, &[0x0F, 0xF0]);
         assert_eq!(page, [0x00, 0xF0]);
         let mut rig = Rig::open(2, Kind::Write, 0, 1);
-        rig.s.marks[0] = DIRTY;
+        put_mark(&mut rig.s, 0, DIRTY);
         (rig.flash[0], rig.flash[1]) = (0xF0, 0xFF);
         (rig.window[0], rig.window[1]) = (0x0F, 0xF0);
         assert_eq!(rig.step(1), (SUCCESS, true));
@@ -1051,7 +1119,7 @@ flash 0 0 0 300
         let mut rig = Rig::new(2);
         rig.s.previous = Some(5);
         assert!(suspend(&mut rig.s));
-        rig.s.marks[0] = DIRTY;
+        put_mark(&mut rig.s, 0, DIRTY);
         for code in [GET_INFO, 200, MARK_DIRTY] {
             let before = rig.clone();
             let mut sent = [0xAB; 16];
@@ -1284,6 +1352,8 @@ flash 0 0 0 300
             first: 9,
             size: 999,
             marks: [200; 64],
+            dirty: 64,
+            erased: 255,
         };
         assert!(resume_changed(&mut s));
         let expected =
@@ -1296,7 +1366,7 @@ flash 0 0 0 300
     #[test]
     fn question_4_version_0_with_a_window() {
         let mut rig = Rig::open(0, Kind::Write, 0, 2);
-        rig.s.marks[0] = DIRTY;
+        put_mark(&mut rig.s, 0, DIRTY);
         assert!(sound_with_lpc(&rig.s, rig.flash.len(), rig.window.len(), rig.b));
         refuses(&mut rig, FLUSH, &[], PARAM_ERROR);
         refuses(&mut rig, CLOSE, &[], PARAM_ERROR);
@@ -1349,7 +1419,7 @@ flash 0 0 0 300
     fn reset_drops_without_a_flush() {
         for version in 0..=2 {
             let mut rig = Rig::open(version, Kind::Write, 1, 2);
-            rig.s.marks[1] = DIRTY;
+            put_mark(&mut rig.s, 1, DIRTY);
             let before = rig.clone();
             let after = rig.send(RESET, &[5; 11]);
             assert_eq!(after, [1, 1, 0, 0, 0, 0, 0, 0, 0, 0, 0, 0, 0, 1, 0, 0x81]);
@@ -1482,7 +1552,7 @@ flash 0 0 0 300
     #[test]
     fn create_refused_earlier_keeps_everything() {
         let mut rig = Rig::open(2, Kind::Write, 0, 2);
-        rig.s.marks[0] = DIRTY;
+        put_mark(&mut rig.s, 0, DIRTY);
         rig.window = pattern(2 * BLOCK, 55);
         rig.s.previous = Some(rig.next);
         refuses(&mut rig, CREATE_WRITE, &wk(4, 0), SEQ_ERROR);
@@ -1506,7 +1576,7 @@ flash 0 0 0 300
     fn flush_at_version_1() {
         let mut rig = Rig::open(1, Kind::Write, 1, 2);
         rig.window = pattern(2 * BLOCK, 55);
-        rig.s.marks[0] = ERASED;
+        put_mark(&mut rig.s, 0, ERASED);
         refuses(&mut rig, FLUSH, &al(0, 1), PARAM_ERROR);
         refuses(&mut rig, FLUSH, &al(3, 1), PARAM_ERROR);
         refuses(&mut rig, FLUSH, &al(2, 4_097), PARAM_ERROR);
@@ -1574,7 +1644,7 @@ flash 0 0 0 300
     fn close_flushes_and_drops() {
         let mut rig = Rig::open(2, Kind::Write, 1, 2);
         rig.window = pattern(2 * BLOCK, 55);
-        rig.s.marks[1] = DIRTY;
+        put_mark(&mut rig.s, 1, DIRTY);
         assert_eq!(rig.code(CLOSE, &[1]), SUCCESS);
         assert_eq!(rig.actions, 17);
         assert!(block(&rig.flash, 2) == block(&rig.window, 1));
@@ -1602,7 +1672,7 @@ flash 0 0 0 300
     #[test]
     fn resume_keeps_the_window_unless_the_flash_changed() {
         let mut rig = Rig::open(2, Kind::Write, 1, 2);
-        rig.s.marks[1] = ERASED;
+        put_mark(&mut rig.s, 1, ERASED);
         let before = rig.s.clone();
         assert!(suspend(&mut rig.s));
         assert!(resume(&mut rig.s));
@@ -1656,6 +1726,7 @@ flash 0 0 0 300
         let with = |change: &dyn Fn(&mut Session)| {
             let mut s = base.clone();
             change(&mut s);
+            recount(&mut s);
             is_sound(&s)
         };
         assert!(with(&|s| s.marks = { let mut m = [0; 64]; m[0] = 1; m[1] = 2; m }));
@@ -1697,8 +1768,8 @@ flash 0 0 0 300
     fn with_events(version: u8, events: u8, suspended: bool) -> Rig {
         let mut rig = Rig::open(version, Kind::Write, 1, 2);
         rig.window = pattern(2 * BLOCK, 55);
-        rig.s.marks[0] = DIRTY;
-        rig.s.marks[1] = ERASED;
+        put_mark(&mut rig.s, 0, DIRTY);
+        put_mark(&mut rig.s, 1, ERASED);
         rig.s.events = events;
         rig.s.suspended = suspended;
         rig
@@ -1875,9 +1946,9 @@ flash 0 0 0 300
     }
 
     fn marked_session(version: u8, events: u8, suspended: bool) -> Session {
-        let marks = [DIRTY; 64];
+        let (marks, dirty) = ([DIRTY; 64], 64);
         let (kind, first, size) = (Kind::Write, 1, 64);
-        Session { version, events, suspended, kind, first, size, marks, ..Session::fresh() }
+        Session { version, events, suspended, kind, first, size, marks, dirty, ..Session::fresh() }
     }
 
     #[test]
@@ -1971,6 +2042,330 @@ flash 0 0 0 300
 flash 0 0 0 300
 ";
         assert_eq!(text, lines);
+    }
+
+    // --------------------------------------------------------- 02, ticket 2
+
+    /// The kept numbers are a full count, and the lamp answers by 17 and 1.
+    fn lamp_is_right(s: &Session) {
+        let (dirty, erased) = full_count(s);
+        assert_eq!((s.dirty, s.erased), (dirty, erased));
+        let (dirty, erased) = (u32::from(dirty), u32::from(erased));
+        assert_eq!(pending(s), Some((dirty + erased, dirty * 17 + erased)));
+    }
+
+    /// S = 6, C = 4, a write window of 4 blocks at 1: dirty, clean, erased, dirty.
+    fn lamp_rig(version: u8) -> Rig {
+        let mut rig = cut_rig([1, 0, 2, 1]);
+        rig.s.version = version;
+        assert_eq!((rig.s.dirty, rig.s.erased), (2, 1));
+        rig
+    }
+
+    /// Kept numbers for `lamp_rig` that are not (2, 1).
+    const WRONG: [(u8, u8); 10] = [
+        (1, 1), (3, 1), (2, 0), (2, 2), (1, 2), (3, 0), (0, 0), (255, 1), (2, 255), (255, 255),
+    ];
+
+    #[test]
+    fn lamp_of_a_fresh_session() {
+        let s = Session::fresh();
+        assert_eq!((s.dirty, s.erased), (0, 0));
+        assert_eq!(pending(&s), Some((0, 0)));
+    }
+
+    #[test]
+    fn lamp_takes_the_latest_mark() {
+        let (d, e) = (MARK_DIRTY, ERASE);
+        let cases: [(&[u8], _, _); 6] = [
+            (&[d], (1, 0), (1, 17)),
+            (&[e], (0, 1), (1, 1)),
+            (&[d, e], (0, 1), (1, 1)),
+            (&[e, d], (1, 0), (1, 17)),
+            (&[d, d], (1, 0), (1, 17)),
+            (&[e, d, e, e], (0, 1), (1, 1)),
+        ];
+        for (codes, numbers, lamp) in cases {
+            let mut rig = Rig::open(2, Kind::Write, 0, 2);
+            for &code in codes {
+                assert_eq!(rig.code(code, &wk(1, 1)), SUCCESS);
+            }
+            assert_eq!((rig.s.dirty, rig.s.erased), numbers);
+            assert_eq!(pending(&rig.s), Some(lamp));
+            assert_eq!(rig.code(FLUSH, &[]), SUCCESS);
+            assert_eq!(rig.actions, lamp.1);
+            assert_eq!(pending(&rig.s), Some((0, 0)));
+        }
+    }
+
+    /// Every command with every range over every row of marks, refused ones too.
+    #[test]
+    fn lamp_after_every_range() {
+        for marks in all_marks() {
+            let start = cut_rig(marks);
+            for code in [MARK_DIRTY, ERASE] {
+                for (w, k) in (0..36).map(|n| (n % 6, n / 6)) {
+                    let mut rig = start.clone();
+                    let good = w + k <= 4;
+                    assert_eq!(rig.code(code, &wk(w, k)) == SUCCESS, good);
+                    lamp_is_right(&rig.s);
+                    if !good || k == 0 {
+                        assert_eq!(pending(&rig.s), pending(&start.s));
+                    }
+                }
+            }
+        }
+    }
+
+    #[test]
+    fn lamp_at_its_largest() {
+        let mut rig = Rig::sized(2, 64, 64);
+        assert_eq!(rig.code(CREATE_WRITE, &wk(0, 0)), SUCCESS);
+        for (code, numbers, lamp) in [
+            (MARK_DIRTY, (64, 0), (64, 1_088)),
+            (ERASE, (0, 64), (64, 64)),
+            (MARK_DIRTY, (64, 0), (64, 1_088)),
+        ] {
+            assert_eq!(rig.code(code, &wk(0, 64)), SUCCESS);
+            assert_eq!((rig.s.dirty, rig.s.erased), numbers);
+            assert_eq!(pending(&rig.s), Some(lamp));
+            assert_eq!(rig.code(code, &wk(64, 0)), SUCCESS);
+            assert_eq!(pending(&rig.s), Some(lamp));
+        }
+        assert_eq!(rig.code(CLOSE, &[]), SUCCESS);
+        assert_eq!((rig.actions, pending(&rig.s)), (1_088, Some((0, 0))));
+    }
+
+    #[test]
+    fn lamp_at_version_1() {
+        let mut rig = Rig::open(1, Kind::Write, 1, 2);
+        assert_eq!(rig.code(MARK_DIRTY, &al(1, 0)), SUCCESS);
+        assert_eq!(pending(&rig.s), Some((0, 0)));
+        assert_eq!(rig.code(MARK_DIRTY, &al(1, 4_096)), SUCCESS);
+        assert_eq!(pending(&rig.s), Some((1, 17)));
+        refuses(&mut rig, MARK_DIRTY, &al(1, 8_193), PARAM_ERROR);
+        refuses(&mut rig, FLUSH, &al(2, 4_097), PARAM_ERROR);
+        assert_eq!(rig.code(MARK_DIRTY, &al(1, 4_097)), SUCCESS);
+        assert_eq!(pending(&rig.s), Some((2, 34)));
+        assert_eq!(rig.code(FLUSH, &al(9, 0)), SUCCESS);
+        assert_eq!((rig.actions, rig.s.dirty, rig.s.erased), (34, 0, 0));
+        put_mark(&mut rig.s, 0, ERASED);
+        assert_eq!(rig.code(FLUSH, &al(1, 1)), SUCCESS);
+        assert_eq!((rig.actions, rig.s.dirty, rig.s.erased), (17, 0, 0));
+    }
+
+    /// Of all pairs of kept numbers only the right one is answered.
+    #[test]
+    fn lamp_is_unsound_for_any_other_number() {
+        let mut s = lamp_rig(2).s;
+        for dirty in 0..=255 {
+            for erased in 0..=255 {
+                (s.dirty, s.erased) = (dirty, erased);
+                let right = (dirty, erased) == (2, 1);
+                assert_eq!(pending(&s), right.then_some((3, 35)));
+                assert_eq!(sound(&s, 6 * BLOCK, 4 * BLOCK), right);
+                assert_eq!(sound_with_lpc(&s, 6 * BLOCK, 4 * BLOCK, 16), right);
+            }
+        }
+    }
+
+    /// The lamp looks at nothing but marks and kept numbers.
+    #[test]
+    fn lamp_answers_other_unsound_records() {
+        let changes: [(&dyn Fn(&mut Session), (u32, u32)); 9] = [
+            (&|s| s.version = 7, (3, 35)),
+            (&|s| s.events ^= 0x40, (3, 35)),
+            (&|s| s.kind = Kind::Read, (3, 35)),
+            (&|s| s.kind = Kind::Closed, (3, 35)),
+            (&|s| s.size = 1, (3, 35)),
+            (&|s| (s.first, s.size) = (65_535, 65_535), (3, 35)),
+            (&|s| put_mark(s, 63, DIRTY), (4, 52)),
+            (&|s| put_mark(s, 4, ERASED), (4, 36)),
+            (&|s| put_mark(s, 1, 9), (3, 35)),
+        ];
+        for (change, lamp) in changes {
+            let mut s = lamp_rig(2).s;
+            change(&mut s);
+            assert!(!sound(&s, 6 * BLOCK, 4 * BLOCK));
+            assert_eq!(pending(&s), Some(lamp));
+            s.erased -= 1;
+            assert_eq!(pending(&s), None);
+            s.erased += 2;
+            assert_eq!(pending(&s), None);
+        }
+        let mut s = lamp_rig(2).s;
+        s.marks[63] = DIRTY;
+        assert_eq!(pending(&s), None);
+        s.marks = [255; 64];
+        assert_eq!(pending(&s), None);
+        (s.dirty, s.erased) = (0, 0);
+        assert_eq!(pending(&s), Some((0, 0)));
+    }
+
+    #[test]
+    fn wrong_numbers_are_system_error_for_every_command() {
+        for version in 0..=2 {
+            for numbers in WRONG {
+                let mut rig = lamp_rig(version);
+                (rig.s.dirty, rig.s.erased) = numbers;
+                rig.s.previous = Some(4);
+                let before = rig.clone();
+                for code in 0..=255 {
+                    for sequence in [4, 5] {
+                        let mut sent = [0xAB; 16];
+                        (sent[0], sent[1]) = (code, sequence);
+                        let mut expected = regs(code, sequence, &[]);
+                        (expected[13], expected[14], expected[15]) = (4, 0xAB, 0x81);
+                        assert_eq!(rig.raw(sent), expected);
+                    }
+                }
+                assert!(rig == before, "SYSTEM_ERROR changed something");
+            }
+        }
+    }
+
+    /// Without a window too, where both are 0.
+    #[test]
+    fn wrong_numbers_without_marks() {
+        for kind in [Kind::Closed, Kind::Read, Kind::Write] {
+            let size = if kind == Kind::Closed { 0 } else { 2 };
+            for (dirty, erased) in [(1, 0), (0, 1), (64, 0), (255, 255)] {
+                let mut rig = Rig::open(2, kind, 0, size);
+                assert_eq!(rig.step(0), (SUCCESS, false));
+                (rig.s.dirty, rig.s.erased) = (dirty, erased);
+                assert_eq!(rig.code(RESET, &[]), SYSTEM_ERROR);
+                assert_eq!((rig.s.dirty, rig.s.erased), (dirty, erased));
+                assert_eq!(rig.step(0), (SYSTEM_ERROR, false));
+                assert_eq!(pending(&rig.s), None);
+            }
+        }
+    }
+
+    #[test]
+    fn order_wrong_numbers_before_everything_else() {
+        for (version, repeated, busy) in [(2, 8, 6), (1, 2, 5), (0, 2, 5)] {
+            let mut rig = lamp_rig(version);
+            assert!(suspend(&mut rig.s));
+            rig.s.previous = Some(7);
+            rig.s.erased = 0;
+            for code in [RESET, GET_INFO, CREATE_READ, CLOSE, FLUSH, ACK, 99] {
+                assert_eq!(rig.raw(regs(code, 7, &[]))[13], SYSTEM_ERROR);
+                assert_eq!(rig.raw(regs(code, 8, &[]))[13], SYSTEM_ERROR);
+            }
+            rig.s.erased = 1;
+            assert_eq!(rig.raw(regs(99, 7, &[]))[13], repeated);
+            refuses(&mut rig, 99, &[], PARAM_ERROR);
+            refuses(&mut rig, RESET, &[], busy);
+        }
+    }
+
+    #[test]
+    fn wrong_numbers_are_4_for_every_step() {
+        for version in 0..=2 {
+            for numbers in WRONG {
+                let mut rig = lamp_rig(version);
+                (rig.s.dirty, rig.s.erased) = numbers;
+                let before = rig.clone();
+                for done in [0, 1, 17, 18, 34, 35, 36, u64::MAX] {
+                    assert_eq!(rig.step(done), (SYSTEM_ERROR, false));
+                }
+                assert!(rig == before);
+                assert!(suspend(&mut rig.s));
+                assert_eq!(rig.step(0), (SYSTEM_ERROR, false));
+                recount(&mut rig.s);
+                assert_eq!(rig.step(0), (BUSY, false));
+            }
+        }
+    }
+
+    /// Steps change the flash, never the marks: the lamp stays lit.
+    #[test]
+    fn steps_keep_the_lamp() {
+        let mut rig = lamp_rig(2);
+        let before = rig.s.clone();
+        for done in 0..36 {
+            assert_eq!(rig.step(done), (SUCCESS, done < 35));
+            assert_eq!((&rig.s, pending(&rig.s)), (&before, Some((3, 35))));
+        }
+    }
+
+    /// Whatever drops or flushes the marks, a refused create too, leaves 0 and 0.
+    #[test]
+    fn numbers_are_0_where_marks_are_dropped() {
+        let commands = [
+            (RESET, vec![], SUCCESS, 0),
+            (CREATE_READ, wk(0, 0), SUCCESS, 35),
+            (CREATE_WRITE, wk(1, 4), SUCCESS, 35),
+            (CREATE_READ, wk(6, 0), PARAM_ERROR, 35),
+            (CREATE_WRITE, wk(65_535, 1), PARAM_ERROR, 35),
+            (CLOSE, vec![], SUCCESS, 35),
+            (FLUSH, vec![], SUCCESS, 35),
+        ];
+        for version in 1..=2 {
+            for (code, args, answer, actions) in &commands {
+                let mut rig = lamp_rig(version);
+                assert_eq!(pending(&rig.s), Some((3, 35)));
+                assert_eq!(rig.code(*code, args), *answer);
+                assert_eq!(rig.actions, *actions);
+                assert_eq!((rig.s.marks, rig.s.dirty, rig.s.erased), ([0; 64], 0, 0));
+                assert_eq!(pending(&rig.s), Some((0, 0)));
+                assert_eq!(rig.code(ACK, &[0]), SUCCESS);
+            }
+        }
+        let mut rig = lamp_rig(0);
+        assert_eq!(rig.code(RESET, &[]), SUCCESS);
+        assert_eq!((rig.s.dirty, rig.s.erased), (0, 0));
+    }
+
+    #[test]
+    fn other_commands_keep_the_numbers() {
+        for version in 0..=2 {
+            for highest in [1, 2, 255] {
+                let mut rig = lamp_rig(version);
+                assert_eq!(rig.code(GET_INFO, &[highest]), SUCCESS);
+                assert_eq!((rig.s.dirty, rig.s.erased), (2, 1));
+                assert_eq!(rig.code(GET_FLASH_INFO, &[]), SUCCESS);
+                assert_eq!(rig.code(ACK, &[0xFF]), SUCCESS);
+                assert_eq!(pending(&rig.s), Some((3, 35)));
+            }
+            let mut rig = lamp_rig(version);
+            refuses(&mut rig, GET_INFO, &[0], PARAM_ERROR);
+            refuses(&mut rig, 99, &[], PARAM_ERROR);
+            assert!(suspend(&mut rig.s));
+            let busy = if version == 2 { BUSY } else { TIMEOUT };
+            refuses(&mut rig, RESET, &[], busy);
+            assert_eq!(rig.code(GET_INFO, &[2]), SUCCESS);
+            assert_eq!(pending(&rig.s), Some((3, 35)));
+            assert!(resume(&mut rig.s));
+            assert_eq!(pending(&rig.s), Some((3, 35)));
+        }
+        let mut rig = lamp_rig(2);
+        refuses(&mut rig, CLOSE, &[2], PARAM_ERROR);
+        refuses(&mut rig, ERASE, &wk(3, 2), PARAM_ERROR);
+        lamp_is_right(&rig.s);
+    }
+
+    /// They act on any record: the drop makes wrong numbers 0, nothing else does.
+    #[test]
+    fn suspend_and_resume_on_wrong_numbers() {
+        for (dirty, erased) in WRONG {
+            for version in [2, 7] {
+                let mut start = lamp_rig(version).s;
+                (start.dirty, start.erased) = (dirty, erased);
+                let mut s = start.clone();
+                assert!(!resume(&mut s) && !resume_changed(&mut s));
+                assert_eq!(s, start);
+                assert!(suspend(&mut s));
+                assert!(!suspend(&mut s));
+                assert_eq!((s.marks, s.dirty, s.erased), (start.marks, dirty, erased));
+                let mut same = s.clone();
+                assert!(resume(&mut same));
+                assert_eq!(same, start);
+                assert!(resume_changed(&mut s));
+                assert_eq!((s.marks, s.dirty, s.erased), ([0; 64], 0, 0));
+                assert_eq!(pending(&s), Some((0, 0)));
+            }
+        }
     }
 
     // ---------------------------------------------------------------- bench
@@ -2109,6 +2504,7 @@ flash 0 0 0 300
                     _ => codes[usize::from(walk_one(&mut rig, &mut random))] += 1,
                 }
                 assert!(sound_with_lpc(&rig.s, rig.flash.len(), rig.window.len(), rig.b));
+                lamp_is_right(&rig.s);
                 let at = random.below(rig.window.len() as u64) as usize;
                 rig.window[at] = random.below(256) as u8;
             }
@@ -2209,6 +2605,9 @@ flash 0 0 0 300
         let mut count = 0;
         while stepped.step(count).1 {
             count += 1;
+        }
+        if !before.s.suspended {
+            assert_eq!(pending(&before.s).map(|(_, actions)| u64::from(actions)), Some(count));
         }
         if after[13] != SUCCESS {
             assert_eq!(after[2..13], [0; 11]);

@@ -81,7 +81,7 @@ mark-dirty-requires c κs =
     let m = lent (a .session) (a .flash .now) (a .memory .now) in
     let sound = sym (checked .before .is-sound-at .ensures) ∙ not-false _ (checked .if1 .left) in
     let f = call-fits (setUp (a .board)) m sound in
-    f .few
+    (f .few, f .counts)
 
 flush-requires : tie.Need-flush-requires
 flush-requires c κs =
@@ -90,7 +90,7 @@ flush-requires c κs =
     let m = lent (a .session) (a .flash .now) (a .memory .now) in
     let sound = sym (checked .before .is-sound-at .ensures) ∙ not-false _ (checked .if1 .left) in
     let f = call-fits (setUp (a .board)) m sound in
-    f .few
+    (f .few, f .counts)
 
 acknowledge-requires : tie.Need-acknowledge-requires
 acknowledge-requires c κs = search needs
@@ -102,7 +102,7 @@ erase-requires c κs =
     let m = lent (a .session) (a .flash .now) (a .memory .now) in
     let sound = sym (checked .before .is-sound-at .ensures) ∙ not-false _ (checked .if1 .left) in
     let f = call-fits (setUp (a .board)) m sound in
-    (f .few, f .room)
+    ((f .few, f .room), f .counts)
 
 unknown-requires-2 : tie.Need-unknown-requires-2
 unknown-requires-2 c κs = search needs

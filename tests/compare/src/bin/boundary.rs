@@ -4,7 +4,7 @@
 //! boundary: BENCH names the bench program.
 
 use compare::pair::{Access, Pair};
-use compare::{program, twin, Record, Suspended};
+use compare::{program, twin, Record, Suspended, Unsaved};
 use std::fs::File;
 use std::mem::{offset_of, size_of, transmute, MaybeUninit};
 
@@ -13,12 +13,17 @@ const BLOCK: usize = 4096;
 /// The record is as include/hiomap.h has it.
 const _: () = assert!(offset_of!(Record, version) == 0 && offset_of!(Record, numbered) == NUMBERED && offset_of!(Record, previous) == 2);
 const _: () = assert!(offset_of!(Record, events) == 3 && offset_of!(Record, suspended) == SUSPENDED && offset_of!(Record, window) == 5);
-const _: () = assert!(offset_of!(Record, first) == 6 && offset_of!(Record, size) == 8 && offset_of!(Record, marks) == MARKS);
-const _: () = assert!(size_of::<Record>() == RECORD && offset_of!(Suspended, record) == 2 && size_of::<Suspended>() == 76);
+const _: () = assert!(offset_of!(Record, first) == 6 && offset_of!(Record, size) == 8 && offset_of!(Record, dirty) == DIRTY);
+const _: () = assert!(offset_of!(Record, erased) == ERASED && offset_of!(Record, marks) == MARKS && size_of::<Record>() == RECORD);
+const _: () = assert!(offset_of!(Suspended, record) == 2 && size_of::<Suspended>() == SUSPENDED_ANSWER);
+const _: () = assert!(offset_of!(Unsaved, blocks) == 4 && offset_of!(Unsaved, actions) == 8 && size_of::<Unsaved>() == 12);
 const NUMBERED: usize = 1;
 const SUSPENDED: usize = 4;
-const MARKS: usize = 10;
-const RECORD: usize = 74;
+const DIRTY: usize = 10;
+const ERASED: usize = 11;
+const MARKS: usize = 12;
+const RECORD: usize = 76;
+const SUSPENDED_ANSWER: usize = 78;
 
 /// Every page of 15 blocks has a byte of its own, and none is FF.
 fn pattern(length: usize, base: usize) -> Vec<u8> {
@@ -34,7 +39,7 @@ fn record(version: u8, window: u8) -> Record {
     if window == 2 {
         record.marks[..2].copy_from_slice(&[2, 1]);
     }
-    record
+    record.counted()
 }
 
 /// Three flash blocks and two window blocks.
@@ -82,11 +87,16 @@ fn fields() -> Result<(), String> {
         for at in 0..RECORD {
             let values: &[u8] = match at {
                 NUMBERED | SUSPENDED => &[0, 1],
-                MARKS.. => &[1, 3],
+                MARKS.. => &[1, 2, 3],
                 _ => &[0, 1, 2, 3, 4, 5, 9, 0x40, 0x43, 0x7f, 0x80, 0x81, 0x83, 0xbf, 0xc0, 0xff],
             };
             for value in values {
-                every_call(&pair(with_byte(base, at, *value))).map_err(|e| format!("byte {at} of the record is {value}: {e}"))?;
+                let record = with_byte(base, at, *value);
+                every_call(&pair(record)).map_err(|e| format!("byte {at} of the record is {value}: {e}"))?;
+                // a mark by itself, with the numbers that fit it
+                if at >= MARKS {
+                    every_call(&pair(record.counted())).map_err(|e| format!("byte {at} of the record is {value}, counted: {e}"))?;
+                }
             }
         }
     }
@@ -255,7 +265,7 @@ fn far_window() -> Result<(), String> {
 
 /// 64 dirty blocks: the most actions, a number of two bytes, and every mark.
 fn most_actions() -> Result<(), String> {
-    let full = Record { first: 1, size: 64, marks: [1; 64], ..record(2, 2) };
+    let full = Record { first: 1, size: 64, marks: [1; 64], ..record(2, 2) }.counted();
     let pair = Pair::new(full, &pattern(66 * BLOCK, 10), &pattern(64 * BLOCK, 90), 0xa1b2, 0xc3d4);
     pair.clone().command(registers(8, 5, &[]))?;
     pair.clone().command(registers(4, 5, &[66]))?;
@@ -282,7 +292,7 @@ fn guarded<T: Copy>(what: &str, call: impl Fn(*mut T)) -> Result<T, String> {
 /// The answers in memory end where the header says, and a fresh record has exactly the bytes of 01.
 fn answers() -> Result<(), String> {
     type Fresh = unsafe extern "C" fn(*mut Record);
-    type Call = unsafe extern "C" fn(*mut [u8; 76], Record);
+    type Call = unsafe extern "C" fn(*mut [u8; SUSPENDED_ANSWER], Record);
     let fresh: Fresh = unsafe { transmute(compare::hiomap_fresh as unsafe extern "C" fn() -> Record) };
     let bytes: [u8; RECORD] = unsafe { transmute(guarded("hiomap_fresh", |place| fresh(place))?) };
     let mut expected = [0; RECORD];
@@ -295,6 +305,27 @@ fn answers() -> Result<(), String> {
     for (name, call) in calls {
         let call: Call = unsafe { transmute(call) };
         guarded(name, |place| unsafe { call(place, record(2, 2)) })?;
+    }
+    Ok(())
+}
+
+/// How much is pending, of every pair of kept numbers beside several marks, and with everything else in the record wrong.
+fn pending() -> Result<(), String> {
+    let mut marks = [[0; 64], [1; 64], [2; 64], [3; 64], [0; 64], [0; 64]];
+    marks[4][..6].copy_from_slice(&[1, 2, 1, 0, 2, 1]);
+    marks[5][60..].copy_from_slice(&[2, 255, 1, 2]);
+    for marks in marks {
+        for numbers in 0..=u16::MAX {
+            let [dirty, erased] = numbers.to_le_bytes();
+            let sound = Record { marks, dirty, erased, ..record(2, 2) };
+            let wrong = Record { version: 255, numbered: 2, events: 0x40, suspended: 3, window: 9, first: 65535, size: 0, ..sound };
+            for record in [sound, wrong] {
+                let (ours, theirs) = (compare::pending(&record), twin::pending(&record));
+                if ours != theirs {
+                    return Err(format!("{record:?}: pending {ours:?}, the second implementation {theirs:?}"));
+                }
+            }
+        }
     }
     Ok(())
 }
@@ -347,6 +378,7 @@ fn main() {
         ("far window", Box::new(far_window)),
         ("most actions", Box::new(most_actions)),
         ("wide answers", Box::new(wide_answers)),
+        ("pending", Box::new(pending)),
         ("bench", Box::new(move || bench(&program))),
     ];
     for (name, section) in &sections {

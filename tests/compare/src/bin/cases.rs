@@ -63,6 +63,20 @@ impl Machine {
         }
     }
 
+    fn pending(&self) -> String {
+        let answer = match self.side {
+            Side::Ours => compare::pending(&record_of(&self.session, 0)),
+            Side::Second => second::pending(&self.session),
+        };
+        answer.map_or("unsound".into(), |(blocks, actions)| format!("{blocks} blocks {actions} actions"))
+    }
+
+    /// Marks from this block on, with the numbers that all marks have then.
+    fn mark(&mut self, first: usize, marks: &[u8]) {
+        self.session.marks[first..first + marks.len()].copy_from_slice(marks);
+        self.session = session_of(&record_of(&self.session, 0).counted());
+    }
+
     fn access(&mut self, call: Access) -> bool {
         let mut record = record_of(&self.session, 0);
         let ours = match call {
@@ -118,8 +132,8 @@ fn session_text(s: &Session) -> String {
     let previous = s.previous.map_or("none".to_string(), |n| n.to_string());
     let marks: Vec<String> = s.marks.iter().enumerate().filter(|(_, m)| **m != 0).map(|(i, m)| format!("{i}:{m}")).collect();
     format!(
-        "version {} previous {previous} events {:02X} suspended {} window {:?} {}+{} marks {}",
-        s.version, s.events, s.suspended, s.kind, s.first, s.size, if marks.is_empty() { "none".into() } else { marks.join(" ") }
+        "version {} previous {previous} events {:02X} suspended {} window {:?} {}+{} dirty {} erased {} marks {}",
+        s.version, s.events, s.suspended, s.kind, s.first, s.size, s.dirty, s.erased, if marks.is_empty() { "none".into() } else { marks.join(" ") }
     )
 }
 
@@ -151,7 +165,7 @@ fn refusal(side: Side, (version, kind, suspended): (u8, Kind, bool), code: u8, s
         suspend(&mut m);
     }
     if kind == Kind::Write {
-        m.session.marks[1] = 1;
+        m.mark(1, &[1]);
     }
     // GET_INFO refuses only 0; CLOSE_WINDOW gets flags, the others a block outside or inside the window
     let first = if code == 2 { argument % 9 } else { argument };
@@ -191,7 +205,7 @@ fn edges(side: Side) {
         cases.extend([0, 1, 2, 4, 0x40, 0x80, 0xfe, 0xff].map(|bits| (9, vec![bits])));
         for (code, arguments) in cases {
             let mut m = with_window(side, version, Kind::Write);
-            m.session.marks[1] = 1;
+            m.mark(1, &[1]);
             print_command(&mut m, code, &arguments);
             println!("    flash {} memory {}", bytes_text(&m.flash), bytes_text(&m.memory));
         }
@@ -231,7 +245,7 @@ fn ranges(version: u8) -> Vec<Vec<u16>> {
 
 /// Records and sizes that break the numbers: the code of GET_INFO and of a step, and whether all stayed.
 fn unsound(side: Side) {
-    let changes: [(&str, fn(&mut Machine)); 21] = [
+    let changes: [(&str, fn(&mut Machine)); 30] = [
         ("nothing", |_| {}),
         ("version 3", |m| m.session.version = 3),
         ("version 255", |m| m.session.version = 255),
@@ -242,10 +256,19 @@ fn unsound(side: Side) {
         ("a window that ends at the end", |m| m.session.first = 2),
         ("a window that ends past the end", |m| m.session.first = 3),
         ("a window at the last number", |m| m.session.first = 65535),
-        ("mark 3", |m| m.session.marks[0] = 3),
-        ("mark 255 past the window", |m| m.session.marks[63] = 255),
-        ("a mark past the window", |m| m.session.marks[2] = 1),
-        ("a mark in a read window", |m| { m.session.kind = Kind::Read; m.session.marks[0] = 2 }),
+        ("mark 3", |m| m.mark(0, &[3])),
+        ("mark 255 past the window", |m| m.mark(63, &[255])),
+        ("a mark past the window", |m| m.mark(2, &[1])),
+        ("a mark in a read window", |m| { m.session.kind = Kind::Read; m.mark(0, &[2]) }),
+        ("a dirty and an erased block", |m| m.mark(0, &[1, 2])),
+        ("one dirty block too many", |m| { m.mark(0, &[1, 2]); m.session.dirty = 2 }),
+        ("one dirty block too few", |m| { m.mark(0, &[1, 2]); m.session.dirty = 0 }),
+        ("one erased block too many", |m| { m.mark(0, &[1, 2]); m.session.erased = 2 }),
+        ("one erased block too few", |m| { m.mark(0, &[1, 2]); m.session.erased = 0 }),
+        ("the two numbers exchanged", |m| { m.mark(0, &[1, 1]); (m.session.dirty, m.session.erased) = (0, 2) }),
+        ("255 dirty blocks", |m| m.session.dirty = 255),
+        ("a mark that is not counted", |m| m.session.marks[0] = 1),
+        ("a mark past the window that is not counted", |m| m.session.marks[63] = 2),
         ("B + C = 65,536", |m| m.lpc = 65534),
         ("B + C = 65,537", |m| m.lpc = 65535),
         ("suspended", suspend),
@@ -272,7 +295,7 @@ fn print_soundness(name: &str, mut m: Machine) {
     let (code, acted) = m.step(0);
     let (registers, actions) = m.send(2, 3, &[1]);
     let kept = m.session == before.session && m.memory == before.memory && m.flash == before.flash;
-    println!("{name}: step {code} {acted}, GET_INFO {} actions {actions}, all kept {kept}", registers[13]);
+    println!("{name}: step {code} {acted}, GET_INFO {} actions {actions}, all kept {kept}, pending {}", registers[13], before.pending());
 }
 
 /// Suspend and resume, twice each, with each window and several event bytes, suspended at first or not, on sound and unsound sessions.
@@ -282,7 +305,7 @@ fn suspensions(side: Side) {
             for last in [Access::Resume, Access::ResumeChanged] {
                 let mut m = with_window(side, version, kind);
                 (m.session.events, m.session.suspended) = (events, suspended);
-                m.session.marks[0] = u8::from(kind == Kind::Write);
+                m.mark(0, &[u8::from(kind == Kind::Write)]);
                 for call in [last, Access::Suspend, Access::Suspend, last, last] {
                     let done = m.access(call);
                     println!("{call:?} {done}: {}", session_text(&m.session));
@@ -310,7 +333,7 @@ fn events(side: Side) {
         for (events, suspended) in [(0xc1, false), (0x81, true)] {
             let mut m = with_window(side, version, Kind::Write);
             (m.session.events, m.session.suspended) = (events, suspended);
-            m.session.marks[1] = 1;
+            m.mark(1, &[1]);
             let before = m.clone();
             let codes: Vec<String> = (0..12).flat_map(|code| [1, 9].map(|sequence| m.send(code, sequence, &[1, 1]).0[13].to_string())).collect();
             let step = m.step(0);
@@ -340,7 +363,7 @@ fn cuts(side: Side) {
     let mut start = Machine::new(side, 6 * BLOCK, 4 * BLOCK);
     start.memory = start.memory.chunks(256).enumerate().flat_map(|(p, page)| page.iter().map(move |b| b ^ p as u8)).collect();
     start.session = Session { version: 2, kind: Kind::Write, first: 1, size: 4, ..Session::fresh() };
-    start.session.marks[..4].copy_from_slice(&[1, 0, 2, 1]);
+    start.mark(0, &[1, 0, 2, 1]);
     let mut whole = start.clone();
     let (registers, n) = whole.send(8, 1, &[]);
     println!("whole flush: {} actions {n}; {}", hex(&registers), pages_text(&whole.flash, &start.flash, &start.memory, 1));
@@ -368,6 +391,47 @@ fn second_run(mut m: Machine, start: &Machine, whole: &Machine) -> String {
     let (registers, actions) = m.send(8, 7, &[]);
     codes.push(registers[13]);
     format!("{codes:?} actions {actions}, as the whole flush {}", m.flash == whole.flash)
+}
+
+/// How much is pending after each call of a list: at version 2, and at version 1, where a FLUSH may add marks of its own. Then the same marks in
+/// records that are wrong elsewhere.
+fn pending(side: Side) {
+    let lists: [(&str, &[(u8, &[u16])]); 3] = [
+        ("marks", &[(2, &[2]), (6, &[0, 4]), (7, &[0, 2]), (10, &[1, 2]), (7, &[1, 0]), (7, &[1, 1]), (10, &[0, 4]), (10, &[1, 1]), (7, &[3, 1]), (7, &[3, 2]), (8, &[]), (8, &[])]),
+        ("where they are dropped", &[(2, &[2]), (6, &[0, 4]), (10, &[0, 3]), (6, &[1, 2]), (7, &[0, 2]), (6, &[6]), (6, &[2, 3]), (7, &[2, 1]), (5, &[2]), (5, &[0]), (4, &[0, 4]), (7, &[0, 1]), (6, &[0, 4]), (7, &[0, 4]), (1, &[])]),
+        ("version 1", &[(2, &[2]), (6, &[1, 3]), (10, &[0, 2]), (2, &[1]), (7, &[2, 4097, 0]), (8, &[1, 12289, 0]), (8, &[1, 4096, 0]), (7, &[1, 1, 0]), (8, &[0, 0, 0])]),
+    ];
+    for (name, calls) in lists {
+        println!("{name}, 6 flash blocks, window memory of 4");
+        let mut m = Machine::new(side, 6 * BLOCK, 4 * BLOCK);
+        for (sequence, (code, arguments)) in (1..).zip(calls) {
+            let before = m.pending();
+            let (registers, actions) = m.send(*code, sequence, arguments);
+            println!("  {code} {arguments:?}: {} actions {actions}; pending before {before}, after {}; {}", registers[13], m.pending(), session_text(&m.session));
+        }
+    }
+    let changes: [(&str, fn(&mut Machine)); 7] = [
+        ("nothing", |_| {}),
+        ("version 7", |m| m.session.version = 7),
+        ("0x40 set and not suspended", |m| m.session.events |= 0x40),
+        ("no window", |m| (m.session.kind, m.session.first, m.session.size) = (Kind::Closed, 0, 0)),
+        ("a read window of no blocks past the end", |m| (m.session.kind, m.session.first, m.session.size) = (Kind::Read, 65535, 0)),
+        ("mark 9 past the window", |m| m.mark(63, &[9])),
+        ("wrong numbers", |m| m.session.erased = 9),
+    ];
+    println!("marks 1 2, and wrong elsewhere; then a step, a suspend and a resume with changed flash");
+    for (name, change) in changes {
+        let mut m = with_window(side, 2, Kind::Write);
+        m.mark(0, &[1, 2]);
+        change(&mut m);
+        let first = m.pending();
+        m.step(0);
+        let stepped = m.pending();
+        m.access(Access::Suspend);
+        let suspended = m.pending();
+        m.access(Access::ResumeChanged);
+        println!("  {name}: pending {first}, {stepped}, {suspended}, {}; {}", m.pending(), session_text(&m.session));
+    }
 }
 
 /// A window of 64 blocks: all marks, the last mark alone, and the most actions.
@@ -411,6 +475,7 @@ fn main() {
         Some("suspensions") => suspensions(side),
         Some("events") => events(side),
         Some("cuts") => cuts(side),
+        Some("pending") => pending(side),
         Some("full") => full(side),
         Some("largest") => largest(side),
         _ => panic!("no such section"),

@@ -48,6 +48,7 @@ fn random_record(r: &mut Random, s: u64, c: u64) -> Record {
             *mark = r.below(3) as u8;
         }
     }
+    record = record.counted();
     if r.once_in(8) {
         spoil(r, &mut record);
     }
@@ -56,7 +57,7 @@ fn random_record(r: &mut Random, s: u64, c: u64) -> Record {
 
 /// A record that no command would leave.
 fn spoil(r: &mut Random, record: &mut Record) {
-    match r.below(8) {
+    match r.below(10) {
         0 => record.version = r.next() as u8,
         1 => record.first = r.next() as u16,
         2 => record.size = r.next() as u16,
@@ -64,8 +65,20 @@ fn spoil(r: &mut Random, record: &mut Record) {
         4 => record.window = 0,
         5 => record.window = r.next() as u8,
         6 => record.events ^= CONTROL_LOST,
+        7 => record.dirty = near(r, record.dirty),
+        8 => record.erased = near(r, record.erased),
         _ => record.marks = [1; 64],
     }
+    // so that nothing but the spoilt field is wrong
+    if r.once_in(2) {
+        *record = record.counted();
+    }
+}
+
+/// One more, one less or any other.
+fn near(r: &mut Random, number: u8) -> u8 {
+    let any = r.next() as u8;
+    r.one_of(&[number.wrapping_add(1), number.wrapping_sub(1), any])
 }
 
 fn registers(r: &mut Random, previous: u8) -> [u8; 16] {
@@ -148,6 +161,7 @@ fn cut(r: &mut Random) -> Result<(), String> {
     for mark in &mut record.marks[..size] {
         *mark = r.below(3) as u8;
     }
+    let record = record.counted();
     let n = second::flush_actions(&session_of(&record)) as u64;
     let mut whole = flash.clone();
     for j in 0..n {

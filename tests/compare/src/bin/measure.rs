@@ -38,6 +38,7 @@ fn write_window(first: u16, size: u16, mark: u8) -> Session {
     session.first = first;
     session.size = size;
     session.marks[..size as usize].fill(mark);
+    (session.dirty, session.erased) = (if mark == 1 { size as u8 } else { 0 }, if mark == 2 { size as u8 } else { 0 });
     session
 }
 
@@ -61,6 +62,13 @@ fn ours(record: &Record, mut registers: [u8; 16], room: &mut Room, flash: usize)
 fn theirs(session: &Session, registers: [u8; 16], room: &mut Room) {
     let mut session = session.clone();
     black_box(second::command(&mut session, registers, 16, 8, &mut room.flash, &mut room.memory));
+}
+
+/// One look at all marks of a record that is handed over as the library's is: how many are dirty, and how many erased.
+#[inline(never)]
+extern "C" fn looked(record: Record) -> u16 {
+    let of = |kind: u8| record.marks.iter().fold(0u8, |count, mark| count + u8::from(*mark == kind));
+    u16::from_be_bytes([of(1), of(2)])
 }
 
 /// One row: the times in the first place, and the least and the largest ratio of all places, which the aim is held to.
@@ -104,6 +112,9 @@ fn against_the_second(room: &mut Room) {
         let both = least(200, 20_000, room, |room| ours(&record, registers, room, 64 * BLOCK), |room| theirs(&clean, registers, room));
         line(what, "the second implementation", &[both], 1.0);
     }
+    let full = record_of(&write_window(0, 64, 1), 0);
+    let both = least(200, 20_000, room, |_| assert_eq!(compare::pending(black_box(&full)), Some((64, 1088))), |_| assert_eq!(looked(black_box(full)), 64 << 8));
+    line("how much is pending", "one look at the marks of the same record", &[both], 1.0);
 }
 
 /// The largest chip against a small one, which is its front.

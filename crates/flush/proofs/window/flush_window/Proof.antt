@@ -17,14 +17,14 @@ returns c =
     let a = c .before .before .before .before .args in
     flushed-none (lent (a .session) (a .flash .now) (a .memory .now)) (sym (c .before .is-sound .ensures) ∙ not-true (c .before .is-sound .result) (c .if1 .taken))
 
-marks-are-sound-requires : tie.Need-marks-are-sound-requires
-marks-are-sound-requires c κs = search needs
+none-marked-requires : tie.Need-none-marked-requires
+none-marked-requires c κs = search needs
 
 returns-2 : tie.Need-returns-2
 returns-2 c =
     let a = c .before .before .before .before .before .before .before .args in
     let sounds = c .before .before .before in
-    flushed-unmarked (lent (a .session) (a .flash .now) (a .memory .now)) (sym (sounds .before .is-sound .ensures) ∙ not-false (sounds .before .is-sound .result) (sounds .if1 .left)) (sym (c .before .marks-are-sound .ensures) ∙ c .if2 .taken)
+    flushed-unmarked (lent (a .session) (a .flash .now) (a .memory .now)) (sym (sounds .before .is-sound .ensures) ∙ not-false (sounds .before .is-sound .result) (sounds .if1 .left)) (sym (c .before .none-marked .ensures) ∙ c .if2 .taken)
 
 flush-part-requires : tie.Need-flush-part-requires
 flush-part-requires c κs =
@@ -45,4 +45,4 @@ returns-3 c =
 
 pub flush-window-spec : {M : Type 1} → statement M
 flush-window-spec =
-    tie.close (tie.spec is-sound-requires returns marks-are-sound-requires returns-2 flush-part-requires same-length returns-3)
+    tie.close (tie.spec is-sound-requires returns none-marked-requires returns-2 flush-part-requires same-length returns-3)

@@ -11,7 +11,7 @@ use Rattle.refusals.specs.Refusals.{blocksNamed, reasonFor}
 use Rattle.refusals.proofs.Accepting.{passed}
 use Rattle.mailbox.specs.Commands.{erasedOutcome}
 use Rattle.mailbox.specs.Table.{erase}
-use Rattle.mailbox.proofs.Marking.{named-fit, named-bytes-fit}
+use Rattle.mailbox.proofs.Marking.{named-fit, named-bytes-fit, named-counts}
 use Rattle.session.specs.Machine.{setUp, lent}
 use Rattle.mailbox.proofs.Mediating.{asked-as, accepted-by}
 use Rattle.mailbox.proofs.Refusing.{refused-left}
@@ -51,8 +51,11 @@ erase-named-requires c κs =
     let p = passed true (call .session) (call .registers) (entered .args .known) WriteWindow (not (blocksNamed (call .session) (call .registers) .inside)) (sym e ∙ told .enum-told .given .1) in
     let next = c .before .with-number in
     let inside = not-false _ (p .argued) in (
-      named-fit (call .session) (next .result) (call .registers) 64 (next .ensures) inside (entered .pre .0),
-      named-bytes-fit (call .session) (next .result) (call .registers) (length (entered .args .memory .now)) (next .ensures) inside (entered .pre .1),
+      named-fit (call .session) (next .result) (call .registers) 64 (next .ensures) inside (entered .pre .0 .0),
+      (
+        named-bytes-fit (call .session) (next .result) (call .registers) (length (entered .args .memory .now)) (next .ensures) inside (entered .pre .0 .1),
+        named-counts (call .session) (next .result) (call .registers) (next .ensures) (entered .pre .1),
+      ),
     )
 
 same-length : tie.Need-same-length

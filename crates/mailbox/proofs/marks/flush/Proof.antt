@@ -9,7 +9,7 @@ use Rattle.refusals.specs.Refusals.{blocksNamed, flushMarks, reasonFor}
 use Rattle.refusals.proofs.Accepting.{passed}
 use Rattle.mailbox.specs.Commands.{flushed}
 use Rattle.mailbox.specs.Table.{flush}
-use Rattle.mailbox.proofs.Marking.{named-fit}
+use Rattle.mailbox.proofs.Marking.{named-fit, named-counts}
 use Rattle.session.specs.Machine.{setUp, lent}
 use Rattle.mailbox.proofs.Mediating.{asked-as, accepted-by}
 use Rattle.mailbox.proofs.Refusing.{refused-left}
@@ -49,10 +49,12 @@ flush-named-requires c κs =
     let s = call .session in
     let registers = call .registers in
     let next = c .before .with-number in
-    let p = passed true s registers (entered .args .known) WriteWindow (flushMarks s registers && not (blocksNamed s registers .inside)) (sym e ∙ told .enum-told .given .1) in
-    λ marks.
-    let adds : flushMarks s registers ≡ true = sym (ap (λ (t : Session). flushMarks t registers) (next .ensures)) ∙ marks in
-    named-fit s (next .result) registers 64 (next .ensures) (not-false (blocksNamed s registers .inside) (rw adds at (p .argued))) (entered .pre)
+    let p = passed true s registers (entered .args .known) WriteWindow (flushMarks s registers && not (blocksNamed s registers .inside)) (sym e ∙ told .enum-told .given .1) in (
+      λ marks.
+          let adds : flushMarks s registers ≡ true = sym (ap (λ (t : Session). flushMarks t registers) (next .ensures)) ∙ marks in
+          named-fit s (next .result) registers 64 (next .ensures) (not-false (blocksNamed s registers .inside) (rw adds at (p .argued))) (entered .pre .0),
+      named-counts s (next .result) registers (next .ensures) (entered .pre .1),
+    )
 
 same-length : tie.Need-same-length
 same-length c = search needs

@@ -10,7 +10,8 @@ flush-marks-requires c κs = search needs
 mark-named-requires : tie.Need-mark-named-requires
 mark-named-requires c κs =
     let m = c .before .flush-marks in
-    c .before .before .before .before .pre (sym (m .ensures) ∙ c .if1 .taken)
+    let p = c .before .before .before .before .pre in
+    (p .0 (sym (m .ensures) ∙ c .if1 .taken), p .1)
 
 flush-all-requires : tie.Need-flush-all-requires
 flush-all-requires c κs = search needs

@@ -13,7 +13,7 @@ use Rattle.refusals.proofs.Accepting.{passed}
 use Rattle.mailbox.specs.declared.Answer.{Answer}
 use Rattle.mailbox.specs.Commands.{outcome, answered, marked}
 use Rattle.mailbox.specs.Table.{markDirty}
-use Rattle.mailbox.proofs.Marking.{named-fit}
+use Rattle.mailbox.proofs.Marking.{named-fit, named-counts}
 use Rattle.session.specs.Machine.{setUp, lent}
 use Rattle.mailbox.proofs.Mediating.{asked-as, accepted-by}
 use Rattle.mailbox.proofs.Refusing.{refused-left}
@@ -51,7 +51,10 @@ mark-named-requires c κs =
     let call = entered .args .call in
     let e = asked .reason-for .ensures ∙ ap (λ (b : BlockRange). reasonFor true (call .session) (call .registers) (entered .args .known) WriteWindow (not (b .inside))) (asked .before .before .blocks-named .ensures) in
     let p = passed true (call .session) (call .registers) (entered .args .known) WriteWindow (not (blocksNamed (call .session) (call .registers) .inside)) (sym e ∙ told .enum-told .given .1) in
-    named-fit (call .session) (c .with-number .result) (call .registers) 64 (c .with-number .ensures) (not-false _ (p .argued)) (entered .pre)
+    let next = c .with-number in (
+      named-fit (call .session) (next .result) (call .registers) 64 (next .ensures) (not-false _ (p .argued)) (entered .pre .0),
+      named-counts (call .session) (next .result) (call .registers) (next .ensures) (entered .pre .1),
+    )
 
 answer-requires : tie.Need-answer-requires
 answer-requires c κs = search needs

@@ -6,7 +6,8 @@ use borrow.Author.Needs.{needs}
 use lib.ListN.{replicate}
 use Rattle.buffers.specs.Ranges.{replace}
 use Rattle.refusals.specs.declared.BlockRange.{BlockRange}
-use Rattle.session.specs.Record.{withMarks}
+use Rattle.session.specs.declared.Counts.{Counts}
+use Rattle.session.specs.Record.{withCounted, withMarks}
 use Rattle.mailbox.proofs.marks.mark_named.Statement.{statement}
 use Rattle.mailbox.proofs.marks.mark_named.Tie as tie
 
@@ -21,20 +22,21 @@ cast-mark-blocks-2 c = search needs
 
 mark-blocks-requires : tie.Need-mark-blocks-requires
 mark-blocks-requires c κs =
-    let s = c .before .before .before in
-    subst (λ (b : BlockRange). b .start + b .count ≤ 64) (sym (s .blocks-named .ensures)) (s .before .pre)
+    let s = c .before .before .before .before in
+    (subst (λ (b : BlockRange). b .start + b .count ≤ 64) (sym (s .blocks-named .ensures)) (s .before .pre .0), s .before .pre .1)
 
 with-marks-requires : tie.Need-with-marks-requires
 with-marks-requires c κs = search needs
 
 returns : tie.Need-returns
 returns c =
-    let s = c .before .before .before .before .before in
-    let a = s .before .args in
+    let a = c .before .before .before .before .before .before .before .before .args in
+    let m = c .before .before .mark-blocks in
     c .with-marks .ensures
+    ∙ ap (λ (n : Counts). withCounted (m .result .marks) n (a .session)) (m .ensures .1)
     ∙ ap (λ (t : List ℕ). withMarks t (a .session))
-    (c .before .mark-blocks .ensures
-    ∙ ap (λ (b : BlockRange). replace (b .start) (replicate (b .count) (a .mark)) (a .session .marks)) (s .blocks-named .ensures))
+    (m .ensures .0
+    ∙ ap (λ (b : BlockRange). replace (b .start) (replicate (b .count) (a .mark)) (a .session .marks)) (c .before .before .before .before .before .before .before .blocks-named .ensures))
 
 pub mark-named-spec : {M : Type 1} → statement M
 mark-named-spec =

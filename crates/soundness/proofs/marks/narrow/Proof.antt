@@ -1,9 +1,9 @@
--- `soundness::narrow` meets its contract.
+-- `soundness::marks::narrow` meets its contract.
 use native.Mathlib.Omega.{arith}
 use borrow.Author.Tests.{le-leb, lt-leb}
 use borrow.Author.Needs.{needs}
-use Rattle.soundness.proofs.narrow.Statement.{statement}
-use Rattle.soundness.proofs.narrow.Tie as tie
+use Rattle.soundness.proofs.marks.narrow.Statement.{statement}
+use Rattle.soundness.proofs.marks.narrow.Tie as tie
 
 cast-result : tie.Need-cast-result
 cast-result c = search needs

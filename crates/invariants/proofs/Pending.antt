@@ -1,0 +1,204 @@
+-- The kept numbers and the question: the claims stand in specs/Pending.antt.
+use mathlib.Core.Path.{_≡_, refl, sym, ap, _∙_, subst}
+use mathlib.Core.Bool.{Bool, true, false, cond, not, _&&_, _||_, false≢true}
+use mathlib.Core.List.{List, [], _∷_}
+use mathlib.Core.Logic.{⊎-elim}
+use Prim.Native.Nat.{ℕ, zero, suc, _+_, _*_, _≤_}
+use native.Mathlib.Omega.{arith}
+use lib.Dec.{leb, eqb}
+use lib.ListN.{length}
+use borrow.Author.Tests.{leb-true, not-true}
+use Rattle.units.proofs.Cases.{decided, both}
+use Rattle.session.specs.declared.Counts.{Counts}
+use Rattle.session.specs.declared.Session.{Session}
+use Rattle.session.specs.Machine.{Setup, Machine}
+use Rattle.session.specs.Events.{controlLost, windowReset, setBits, clearBits}
+use Rattle.session.specs.Record.{clean, withAccess, dropWindow}
+use Rattle.session.specs.Suspension.{answer}
+use Rattle.session.specs.Marks.{ofKind, marksOf, countsOf, sameCounts}
+use Rattle.soundness.specs.Soundness.{markable, marksSound, sound, soundAt, soundIn}
+use Rattle.soundness.specs.declared.pending_work.PendingWork.the-variants.{Marked}
+use Rattle.soundness.specs.Pending.{pendingIn}
+use Rattle.soundness.proofs.Counting.{counts-same, same-counts}
+use Rattle.soundness.proofs.Facts.{counts-right, measured}
+use Rattle.flush.specs.Window.{windowActions, advanced, flushWhole}
+use Rattle.flush.proofs.Lists.{flush-count}
+use Rattle.refusals.specs.declared.Reason.{Reason}
+use Rattle.refusals.specs.declared.Reason.the-variants.{Accepted, System}
+use Rattle.refusals.specs.declared.Needs.the-variants.{Access}
+use Rattle.refusals.specs.Refusals.{flushMarks, reasonFor}
+use Rattle.refusals.proofs.Accepting.{passed}
+use Rattle.registers.specs.Registers.{commandOf}
+use Rattle.mailbox.specs.Commands.{Outcome, numberedIn}
+use Rattle.mailbox.specs.Table.{Command}
+use Rattle.mailbox.specs.Mediator.{commandAt, reasonOf, reasonIn, mediate}
+use Rattle.mailbox.specs.Runs.{calledAll}
+use Rattle.mailbox.proofs.Mediating.{carried, each-command}
+use Rattle.invariants.specs.Codes.{isCreate}
+use Rattle.invariants.specs.Pending.{Counted, MiscountedRefused, RunCounted, Unmarked, drops, DroppedUnmarked, PendingExact, markedBlocks, PendingTells, PendingCarried}
+use Rattle.invariants.proofs.Kept.{sounds-unless, flush-sound}
+use Rattle.invariants.proofs.Refused.{refusals-as-said}
+use Rattle.invariants.proofs.Runs.{run-keeps}
+
+-- ---- the kept numbers
+counted : (s : Session) → s .counts ≡ countsOf (s .marks) → Counted s
+counted s e = record { dirty = λ i. e i .dirty; erased = λ i. e i .erased }
+
+-- and the other way
+counts : (s : Session) → Counted s → s .counts ≡ countsOf (s .marks)
+counts s c = λ i. record { dirty = c .dirty i; erased = c .erased i }
+
+miscounted : (flash memory : ℕ) (s : Session) → (Counted s → ⊥) → sound flash memory s ≡ false
+miscounted flash memory s apart =
+    ⊎-elim
+    (λ (e : sound flash memory s ≡ true). absurd (apart (counted s (counts-right flash memory s e))))
+    (λ (e : sound flash memory s ≡ false). e)
+    (decided (sound flash memory s))
+
+pub miscounted-refused : MiscountedRefused
+unfolding soundAt reasonFor advanced
+miscounted-refused setup registers m apart =
+    let e = miscounted (length (m .flash)) (length (m .memory)) (m .session) apart in
+    (rw e, λ done. rw e)
+
+right : (setup : Setup) (m : Machine) → soundIn setup m ≡ true → m .session .counts ≡ countsOf (m .session .marks)
+right setup m e = measured setup (length (m .flash)) (length (m .memory)) (m .session) e .fits .counts
+
+pub run-counted : RunCounted
+run-counted setup calls m e =
+    let n = calledAll setup calls m in
+    counted (n .session) (right setup n (run-keeps setup calls m e))
+
+-- ---- where the marks are dropped
+none : (s : Session) → s .marks ≡ clean → s .counts ≡ countsOf clean → Unmarked s
+none s m c = record { marks = m; dirty = λ i. c i .dirty; erased = λ i. c i .erased }
+
+module _ (setup : Setup) (registers : List ℕ) (m : Machine) where
+  -- a command that no check refused, by its row
+  abbrev Drops : ℕ → Command → Type 0
+  Drops n c =
+      (t : Bool) → reasonOf c t registers m ≡ Accepted → drops n ≡ true → Unmarked (c .leaves setup registers (numberedIn registers m) .machine .session)
+
+  dropping : (n : ℕ) → Drops n (commandAt n)
+  dropping =
+      each-command Drops
+      (λ t a d. none _ refl refl)
+      (λ t a d. absurd (false≢true d))
+      (λ t a d. absurd (false≢true d))
+      (λ t a d. none _ refl refl)
+      (λ t a d. none _ refl refl)
+      (λ t a d. none _ refl refl)
+      (λ t a d. absurd (false≢true d))
+      (λ t a d. none _ refl refl)
+      (λ t a d. absurd (false≢true d))
+      (λ t a d. absurd (false≢true d))
+      (λ n t a d. absurd (false≢true (passed t (m .session) registers false Access false a .knows)))
+
+pub dropped-unmarked : DroppedUnmarked
+dropped-unmarked = (
+  λ setup registers m. (
+    λ a d.
+        subst (λ (o : Outcome). Unmarked (o .machine .session)) (sym (carried setup registers m (commandOf registers) refl a))
+        (dropping setup registers m (commandOf registers) (soundIn setup m) a d),
+    λ a c. subst (λ (o : Outcome). Unmarked (o .machine .session)) (sym (refusals-as-said setup registers m .1 c a)) (none _ refl refl),
+  ),
+  λ s. (
+    none (dropWindow s) refl refl,
+    λ e. subst (λ (t : Bool). Unmarked (answer t s (dropWindow (withAccess false (setBits windowReset (clearBits controlLost (s .events))) s)) .session)) (sym e) (none _ refl refl),
+  ),
+)
+
+-- ---- the question
+pub pending-exact : PendingExact
+pending-exact s = (
+  λ c. rw (same-counts (s .counts) (countsOf (s .marks)) (counts s c)),
+  λ n. ⊎-elim
+      (λ (e : sameCounts (s .counts) (countsOf (s .marks)) ≡ true). absurd (n (counted s (counts-same (s .counts) (countsOf (s .marks)) e))))
+      (λ (e : sameCounts (s .counts) (countsOf (s .marks)) ≡ false). rw e)
+      (decided (sameCounts (s .counts) (countsOf (s .marks)))),
+)
+
+-- a sound mark counts once where it isn't 0
+kinds : (mark : ℕ) → mark ≤ 2 → ofKind 1 mark + ofKind 2 mark ≡ cond (eqb mark 0) 0 1
+kinds zero h = refl
+kinds (suc zero) h = refl
+kinds (suc (suc zero)) h = refl
+kinds (suc (suc (suc mark))) h = absurd (omega arith)
+
+marked-more : (mark : ℕ) (marks : List ℕ) → mark ≤ 2 → marksOf 1 marks + marksOf 2 marks ≡ markedBlocks marks
+    → marksOf 1 (mark ∷ marks) + marksOf 2 (mark ∷ marks) ≡ markedBlocks (mark ∷ marks)
+marked-more mark marks h rest = sum (ofKind 1 mark) (ofKind 2 mark) (marksOf 1 marks) (marksOf 2 marks) (kinds mark h) rest
+  where
+    sum : (a b c d : ℕ) {x y : ℕ} → a + b ≡ x → c + d ≡ y → a + c + (b + d) ≡ x + y
+    sum a b c d p q = omega arith
+
+marked-all : (n : ℕ) (marks : List ℕ) → marksSound n marks ≡ true → marksOf 1 marks + marksOf 2 marks ≡ markedBlocks marks
+marked-all n [] e = refl
+marked-all zero (mark ∷ marks) e =
+    let p = both (leb mark 0) (marksSound zero marks) e in
+    marked-more mark marks (omega (arith, leb-true mark 0 (p .0))) (marked-all zero marks (p .1))
+marked-all (suc n) (mark ∷ marks) e =
+    let p = both (leb mark 2) (marksSound n marks) e in
+    marked-more mark marks (leb-true mark 2 (p .0)) (marked-all n marks (p .1))
+
+pub pending-tells : PendingTells
+pending-tells setup m e =
+    let s = m .session in
+    let n = right setup m e in
+    let blocks = ap (λ (c : Counts). c .dirty + c .erased) n
+    ∙ marked-all (markable (s .window) (s .size)) (s .marks) (measured setup (length (m .flash)) (length (m .memory)) s e .fits .marks) in
+    let actions = ap (λ (c : Counts). 17 * c .dirty + c .erased) n ∙ sym (flush-count (s .marks)) in
+    rw (same-counts (s .counts) (countsOf (s .marks)) n) (λ i. Marked (blocks i) (actions i))
+
+-- ---- the answer that carries it
+module _ (setup : Setup) (registers : List ℕ) (m : Machine) where
+  -- whether a code is that of a command that flushes the marks as they are
+  abbrev flushes : ℕ → Bool
+  flushes n = isCreate n || (eqb n 5 || (eqb n 8 && not (flushMarks (m .session) registers)))
+
+  abbrev Carries : ℕ → Command → Type 0
+  Carries n c =
+      (t : Bool) → reasonOf c t registers m ≡ Accepted → flushes n ≡ true
+      → c .leaves setup registers (numberedIn registers m) .actions ≡ flushWhole (numberedIn registers m) .actions
+
+  carrying : (n : ℕ) → Carries n (commandAt n)
+  carrying =
+      each-command Carries
+      (λ t a f. absurd (false≢true f))
+      (λ t a f. absurd (false≢true f))
+      (λ t a f. absurd (false≢true f))
+      (λ t a f. refl)
+      (λ t a f. refl)
+      (λ t a f. refl)
+      (λ t a f. absurd (false≢true f))
+      (λ t a f. rw (not-false-is f))
+      (λ t a f. absurd (false≢true f))
+      (λ t a f. absurd (false≢true f))
+      (λ n t a f. absurd (false≢true (passed t (m .session) registers false Access false a .knows)))
+    where
+      not-false-is : not (flushMarks (m .session) registers) ≡ true → flushMarks (m .session) registers ≡ false
+      not-false-is f = not-true (flushMarks (m .session) registers) f
+
+  -- a flush of a window that stays as it is
+  whole : (reasonIn setup registers m ≡ System → ⊥) → flushWhole (numberedIn registers m) .actions ≡ length (windowActions (m .session))
+  unfolding flushWhole
+  whole fine = rw (flush-sound setup registers m fine .0)
+
+  told : (reasonIn setup registers m ≡ System → ⊥) → mediate setup registers m .actions ≡ flushWhole (numberedIn registers m) .actions
+      → pendingIn (m .session) ≡ Marked (markedBlocks (m .session .marks)) (mediate setup registers m .actions)
+  told fine e =
+      pending-tells setup m (sounds-unless setup registers m fine)
+      ∙ ap (Marked (markedBlocks (m .session .marks))) (sym (e ∙ whole fine))
+
+  other : {r : Reason} → (r ≡ System → ⊥) → reasonIn setup registers m ≡ r → reasonIn setup registers m ≡ System → ⊥
+  other n e q = n (sym e ∙ q)
+
+pub pending-carried : PendingCarried
+pending-carried setup registers m = (
+  λ a f.
+      told setup registers m (other setup registers m (λ q. let z : _≡_ {A = ℕ} 0 1 = cc in omega arith) a)
+      (ap (λ (o : Outcome). o .actions) (carried setup registers m (commandOf registers) refl a) ∙ carrying setup registers m (commandOf registers) (soundIn setup m) a f),
+  λ a c.
+      told setup registers m (other setup registers m (λ q. let z : _≡_ {A = ℕ} 0 1 = cc in omega arith) a)
+      (ap (λ (o : Outcome). o .actions) (refusals-as-said setup registers m .1 c a)),
+)

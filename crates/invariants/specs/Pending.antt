@@ -1,0 +1,92 @@
+-- The kept numbers of dirty and erased blocks, and what the question tells of them, with the papers' own numbers: document 02, Ticket 2. Proved in
+-- proofs/Pending.antt.
+use mathlib.Core.Path.{_≡_}
+use mathlib.Core.Bool.{Bool, true, cond, not, _&&_, _||_}
+use mathlib.Core.List.{List, [], _∷_}
+use Prim.Native.Nat.{ℕ, _+_, _*_}
+use lib.Dec.{eqb}
+use lib.ListN.{length, replicate}
+use Rattle.session.specs.declared.Session.{Session}
+use Rattle.session.specs.Machine.{Setup, Machine}
+use Rattle.session.specs.Marks.{marksOf}
+use Rattle.session.specs.Record.{dropWindow}
+use Rattle.session.specs.Suspension.{resumedChanged}
+use Rattle.soundness.specs.Soundness.{soundIn}
+use Rattle.soundness.specs.declared.pending_work.PendingWork.the-variants.{Unsound, Marked}
+use Rattle.soundness.specs.Pending.{pendingIn}
+use Rattle.flush.specs.Window.{windowActions, advanced}
+use Rattle.refusals.specs.declared.Reason.the-variants.{Accepted, System, Argument}
+use Rattle.refusals.specs.Refusals.{flushMarks}
+use Rattle.registers.specs.Registers.{commandOf}
+use Rattle.mailbox.specs.Mediator.{reasonIn, mediate}
+use Rattle.mailbox.specs.Runs.{Call, calledAll}
+use Rattle.invariants.specs.Codes.{isCreate}
+
+-- ---- the kept numbers
+
+-- they "equal a full count of the marks": of those that are 1, and of those that are 2
+pub record Counted (s : Session) : Type 0 where
+  pub dirty : s .counts .dirty ≡ marksOf 1 (s .marks)
+  pub erased : s .counts .erased ≡ marksOf 2 (s .marks)
+
+-- "disagreement is SYSTEM_ERROR, first as before", whatever the command, and 4 for a step
+abbrev pub MiscountedRefused : Type 0
+MiscountedRefused =
+    (setup : Setup) (registers : List ℕ) (m : Machine) → (Counted (m .session) → ⊥)
+    → (reasonIn setup registers m ≡ System) × ((done : ℕ) → advanced m done .code ≡ 4)
+
+-- "correct after every call on a sound session": it stays sound (`CommandKeeps`, `AccessKeeps`), and a sound session's are. After any list of calls
+abbrev pub RunCounted : Type 0
+RunCounted = (setup : Setup) (calls : List Call) (m : Machine) → soundIn setup m ≡ true → Counted (calledAll setup calls m .session)
+
+-- "and 0 where marks are dropped": nothing is marked, and both numbers say so
+pub record Unmarked (s : Session) : Type 0 where
+  pub marks : s .marks ≡ replicate 64 0
+  pub dirty : s .counts .dirty ≡ 0
+  pub erased : s .counts .erased ≡ 0
+
+-- RESET (1), a create (4, 6), CLOSE_WINDOW (5) and FLUSH (8) drop the marks
+abbrev pub drops : ℕ → Bool
+drops code = eqb code 1 || (isCreate code || (eqb code 5 || eqb code 8))
+
+-- where no check refuses them; a create also where it is refused for its argument; and resume with changed flash, of any session, sound or not
+abbrev pub DroppedUnmarked : Type 0
+DroppedUnmarked =
+    ((setup : Setup) (registers : List ℕ) (m : Machine)
+    → (reasonIn setup registers m ≡ Accepted → drops (commandOf registers) ≡ true → Unmarked (mediate setup registers m .machine .session))
+    × (reasonIn setup registers m ≡ Argument → isCreate (commandOf registers) ≡ true → Unmarked (mediate setup registers m .machine .session)))
+    × ((s : Session) → Unmarked (dropWindow s) × (s .suspended ≡ true → Unmarked (resumedChanged s .session)))
+
+-- ---- the question
+
+-- it "answers 'unsound' exactly then", whatever else the session is, and otherwise from the kept numbers
+abbrev pub PendingExact : Type 0
+PendingExact =
+    (s : Session)
+    → (Counted s → pendingIn s ≡ Marked (s .counts .dirty + s .counts .erased) (17 * s .counts .dirty + s .counts .erased))
+    × ((Counted s → ⊥) → pendingIn s ≡ Unsound)
+
+-- the number of marks that aren't 0
+abbrev pub markedBlocks : List ℕ → ℕ
+markedBlocks [] = 0
+markedBlocks (mark ∷ marks) = cond (eqb mark 0) 0 1 + markedBlocks marks
+
+-- on a sound session it tells "how many window blocks are marked and how many chip actions a flush would take"
+abbrev pub PendingTells : Type 0
+PendingTells =
+    (setup : Setup) (m : Machine) → soundIn setup m ≡ true
+    → pendingIn (m .session) ≡ Marked (markedBlocks (m .session .marks)) (length (windowActions (m .session)))
+
+-- a command that flushes the marks as they are: a FLUSH that adds none, and one that closes the window
+abbrev pub flushesThem : Session → List ℕ → Bool
+flushesThem s registers =
+    isCreate (commandOf registers) || (eqb (commandOf registers) 5 || (eqb (commandOf registers) 8 && not (flushMarks s registers)))
+
+-- and the answer to that command carries the same number of actions, to a create also where it is refused for its argument
+abbrev pub PendingCarried : Type 0
+PendingCarried =
+    (setup : Setup) (registers : List ℕ) (m : Machine)
+    → (reasonIn setup registers m ≡ Accepted → flushesThem (m .session) registers ≡ true
+    → pendingIn (m .session) ≡ Marked (markedBlocks (m .session .marks)) (mediate setup registers m .actions))
+    × (reasonIn setup registers m ≡ Argument → isCreate (commandOf registers) ≡ true
+    → pendingIn (m .session) ≡ Marked (markedBlocks (m .session .marks)) (mediate setup registers m .actions))
