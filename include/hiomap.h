@@ -87,7 +87,8 @@ extern "C" {
 
 /*
  * A session, as the board keeps it. Make one with hiomap_fresh. A record with numbered or suspended above 1 is not
- * sound, nor is one in which bit 0x40 of the event byte is set and access not suspended, or the other way round.
+ * sound, nor is one in which bit 0x40 of the event byte is set and access not suspended, or the other way round, nor
+ * one in which `dirty` or `erased` is not the number of such marks: whoever changes a mark by hand changes them too.
  */
 typedef struct hiomap_record {
     uint8_t version;   /* the agreed version: 0 none, 1, 2 */
@@ -98,6 +99,8 @@ typedef struct hiomap_record {
     uint8_t window;    /* HIOMAP_WINDOW_.. */
     uint16_t first;    /* the window's first flash block; 0 without a window */
     uint16_t size;     /* its size in blocks; 0 without a window */
+    uint8_t dirty;     /* how many of the marks are 1, */
+    uint8_t erased;    /* and how many are 2 */
     uint8_t marks[64]; /* of each window block: 0 clean, 1 dirty, 2 erased */
 } hiomap_record;
 
@@ -127,14 +130,28 @@ typedef struct hiomap_stepped {
     bool acted;
 } hiomap_stepped;
 
+/*
+ * How much is pending: the marked window blocks, and the chip actions that their flush takes. `unsound` where `dirty`
+ * or `erased` of the record is not the number of such marks; the two numbers are 0 then and mean nothing.
+ */
+typedef struct hiomap_pending_work {
+    bool unsound;
+    uint32_t blocks;
+    uint32_t actions;
+} hiomap_pending_work;
+
 /* Each field stands where the library has it. */
 HIOMAP_ASSERT(offsetof(hiomap_record, version) == 0 && offsetof(hiomap_record, numbered) == 1, "hiomap_record");
 HIOMAP_ASSERT(offsetof(hiomap_record, previous) == 2 && offsetof(hiomap_record, events) == 3, "hiomap_record");
 HIOMAP_ASSERT(offsetof(hiomap_record, suspended) == 4 && offsetof(hiomap_record, window) == 5, "hiomap_record");
 HIOMAP_ASSERT(offsetof(hiomap_record, first) == 6 && offsetof(hiomap_record, size) == 8, "hiomap_record");
-HIOMAP_ASSERT(offsetof(hiomap_record, marks) == 10 && sizeof(hiomap_record) == 74, "hiomap_record");
-HIOMAP_ASSERT(offsetof(hiomap_suspended, record) == 2 && sizeof(hiomap_suspended) == 76, "hiomap_suspended");
+HIOMAP_ASSERT(offsetof(hiomap_record, dirty) == 10 && offsetof(hiomap_record, erased) == 11, "hiomap_record");
+HIOMAP_ASSERT(offsetof(hiomap_record, marks) == 12 && sizeof(hiomap_record) == 76, "hiomap_record");
+HIOMAP_ASSERT(offsetof(hiomap_suspended, record) == 2 && sizeof(hiomap_suspended) == 78, "hiomap_suspended");
 HIOMAP_ASSERT(offsetof(hiomap_stepped, acted) == 1 && sizeof(hiomap_stepped) == 2, "hiomap_stepped");
+HIOMAP_ASSERT(offsetof(hiomap_pending_work, blocks) == 4, "hiomap_pending_work");
+HIOMAP_ASSERT(offsetof(hiomap_pending_work, actions) == 8, "hiomap_pending_work");
+HIOMAP_ASSERT(sizeof(hiomap_pending_work) == 12, "hiomap_pending_work");
 HIOMAP_ASSERT(offsetof(hiomap_bytes, length) == sizeof(uint8_t *), "hiomap_bytes");
 HIOMAP_ASSERT(offsetof(hiomap_const_bytes, length) == sizeof(uint8_t *), "hiomap_const_bytes");
 
@@ -147,8 +164,8 @@ hiomap_record hiomap_fresh(void);
 /*
  * Serves one mailbox command and returns the number of its chip actions.
  *   record     the session; changed in place. One that is not sound is answered with SYSTEM_ERROR and stays
- *              exactly as it is: a window number above 2, numbered or suspended above 1, and 0x40 and
- *              suspended that disagree, are among these
+ *              exactly as it is: a window number above 2, numbered or suspended above 1, 0x40 and
+ *              suspended that disagree, and dirty or erased that disagree with the marks, are among these
  *   registers  the 16 registers as received; they hold the response afterwards
  *   lpc        the window's first LPC block (B)
  *   timeout    the suggested timeout in seconds (T)
@@ -178,6 +195,14 @@ hiomap_suspended hiomap_resume_changed(hiomap_record record);
  * The record has no change, and the marks stay: a FLUSH after the steps does all actions again.
  */
 hiomap_stepped hiomap_step(hiomap_record record, hiomap_bytes flash, hiomap_const_bytes memory, uint64_t done);
+
+/*
+ * How much is pending: how many window blocks are marked, and how many chip actions a flush would take that begins
+ * now. It looks at the marks and their two numbers alone, and answers whatever else the record holds; of a sound
+ * record `actions` is what the next FLUSH returns that adds no mark, and the next close. Steps change no mark, so
+ * they do not lower it: the caller subtracts those that it has done.
+ */
+hiomap_pending_work hiomap_pending(hiomap_record record);
 
 #ifdef __cplusplus
 }

@@ -9,7 +9,7 @@ ROOT = pathlib.Path(__file__).resolve().parent.parent
 # Rattle's types as the header writes them
 TYPES = {
     "u8": "uint8_t", "u16": "uint16_t", "u32": "uint32_t", "u64": "uint64_t", "bool": "bool", "[u8; 64]": "uint8_t[64]",
-    "Record": "hiomap_record", "Suspended": "hiomap_suspended", "Stepped": "hiomap_stepped", "&mut Record": "hiomap_record *",
+    "Record": "hiomap_record", "Suspended": "hiomap_suspended", "Stepped": "hiomap_stepped", "Work": "hiomap_pending_work", "&mut Record": "hiomap_record *",
     "&mut [u8; 16]": "uint8_t (*)[16]", "&mut [u8]": "hiomap_bytes", "&[u8]": "hiomap_const_bytes",
 }
 # what the header calls a lent or stored record

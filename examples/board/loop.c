@@ -77,6 +77,15 @@ static hiomap_stepped step(uint64_t done) {
     return hiomap_step(session, whole_flash(), (hiomap_const_bytes){memory, sizeof memory}, done);
 }
 
+/* What a panel shows: the unsaved work, asked for as often as wanted. */
+static void print_pending(void) {
+    hiomap_pending_work work = hiomap_pending(session);
+    if (work.unsound)
+        printf("pending unsound\n");
+    else
+        printf("pending %u blocks, %u actions\n", (unsigned)work.blocks, (unsigned)work.actions);
+}
+
 /* How many bytes of each block are not FF. */
 static void print_flash(void) {
     printf("flash");
@@ -99,7 +108,9 @@ int main(void) {
     memset(memory, 0xA5, 300);        /* the host writes in the first window block, */
     memory[HIOMAP_BLOCK_BYTES] = 0x5A; /* and in the second, not marked yet: the first FLUSH leaves it */
     COMMAND(7, 3, 0, 0, 1, 0);        /* MARK_DIRTY, the first window block */
+    print_pending();
     COMMAND(8, 4);                    /* FLUSH: an erase and 16 pages */
+    print_pending();
     print_flash();
 
     memset(memory + 200, 0xFF, 100);  /* the host takes 100 bytes back */
@@ -121,6 +132,7 @@ int main(void) {
     }
     printf("steps %u then %u %s\n", (unsigned)done, last.code, yes(last.acted));
     print_flash();
+    print_pending();                  /* steps change no mark */
     COMMAND(8, 8);                    /* the marks are still there: FLUSH does it again */
 
     COMMAND(7, 9, 1, 0, 1, 0);        /* MARK_DIRTY, the second window block */
@@ -142,10 +154,19 @@ int main(void) {
     printf("kept %s\n", yes(memcmp(&before, &session, sizeof session) == 0));
     hiomap_stepped broken = step(0);
     printf("step %u %s\n", broken.code, yes(broken.acted));
+    session.version = 7;              /* what is pending is told all the same, as long as its numbers are right */
+    session.marks[0] = 1;
+    session.marks[1] = 2;
+    session.dirty = session.erased = 1;
+    print_pending();
+    session.dirty = 2;                /* and here they are not; */
+    print_pending();
     change_access("suspend", hiomap_suspend); /* suspend and resume act on any record */
     printf("window %u\n", session.window);
     change_access("resume changed", hiomap_resume_changed);
     printf("window %u\n", session.window);
+    print_pending();                  /* a window that is dropped leaves nothing */
+    session.version = 2;
     session.suspended = 2;            /* a 2 for yes or no is not sound either; a resume takes it for yes */
     COMMAND(2, 17, 2);
     change_access("resume", hiomap_resume);

@@ -17,7 +17,7 @@ use Rattle.mailbox.specs.Mediator.{mediate}
 use Rattle.board.specs.declared.Record.{Record}
 use Rattle.board.specs.declared.Stepped.{Stepped}
 use Rattle.board.specs.declared.Suspended.{Suspended}
-use Rattle.board.specs.declared.Unsaved.{Unsaved}
+use Rattle.board.specs.declared.Work.{Work}
 use Rattle.board.specs.Record.{isRegular, sessionOf, recordOf, withNumbers}
 
 -- "B", and "T", as C passes them
@@ -81,13 +81,13 @@ steppedRecord h memory done flash =
     (record { code = 4; yes = false; flash = flash })
 
 -- "unsound", and else the two numbers, as C has them: with "unsound" both are 0 (house)
-abbrev pub unsavedOf : PendingWork → Unsaved
-unsavedOf Unsound = record { unsound = true; blocks = 0; actions = 0 }
-unsavedOf (Marked blocks actions) = record { unsound = false; blocks = blocks; actions = actions }
+abbrev pub workOf : PendingWork → Work
+workOf Unsound = record { unsound = true; blocks = 0; actions = 0 }
+workOf (Marked blocks actions) = record { unsound = false; blocks = blocks; actions = actions }
 
 -- how much is pending, whatever the other numbers of the record (02, Ticket 2)
-abbrev pub pendingRecord : Record → Unsaved
-pendingRecord h = unsavedOf (pendingIn (sessionOf h))
+abbrev pub pendingRecord : Record → Work
+pendingRecord h = workOf (pendingIn (sessionOf h))
 
 -- from a session to C's record and back nothing is lost, nor the other way where the record is regular. Proved in proofs/Answers.antt
 abbrev pub NothingLost : Type 0

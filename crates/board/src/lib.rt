@@ -56,7 +56,7 @@ pub struct Stepped {
 // How much is pending: whether a kept number disagrees with the marks, and else the number of marked blocks, and
 // of the chip actions that their flush takes.
 #[repr(C)]
-pub struct Unsaved {
+pub struct Work {
     pub unsound: bool,
     pub blocks: u32,
     pub actions: u32,

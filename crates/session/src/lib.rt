@@ -9,9 +9,10 @@ mod suspension;
 
 pub use events::acknowledge_events;
 pub use events::is_control_lost;
-pub use marks::CLEAN;
+use marks::CLEAN;
 pub use marks::DIRTY;
 pub use marks::ERASED;
+use marks::NO_MARKS;
 pub use marks::mark_erases;
 pub use marks::mark_programs;
 pub use marks::none_marked;
@@ -81,10 +82,7 @@ pub fn new_session() -> Session
         window: Window::Closed,
         first: 0,
         size: 0,
-        counts: Counts {
-            dirty: 0,
-            erased: 0,
-        },
-        marks: [0; 64],
+        counts: NO_MARKS,
+        marks: [CLEAN; 64],
     }
 }

@@ -4,13 +4,19 @@ ghost use mathlib.Core.Path.{_≡_};
 ghost use Rattle.session.specs.Marks.{erases, programs, ofKind, sameCounts, noneMarked};
 
 // Nothing is asked.
-pub const CLEAN: u8 = 0;
+pub(crate) const CLEAN: u8 = 0;
 
 // The block is to become the window's bytes.
 pub const DIRTY: u8 = 1;
 
 // The block is to become FF.
 pub const ERASED: u8 = 2;
+
+// The numbers of no marks.
+pub(crate) const NO_MARKS: Counts = Counts {
+    dirty: 0,
+    erased: 0,
+};
 
 // Whether a block with this mark is erased.
 pub fn mark_erases(mark: u8) -> bool

@@ -4,6 +4,8 @@ use crate::Counts;
 use crate::Previous;
 use crate::Session;
 use crate::Window;
+use crate::marks::CLEAN;
+use crate::marks::NO_MARKS;
 ghost use mathlib.Core.Path.{_≡_};
 ghost use Rattle.session.specs.Record.{withVersion, withPrevious, withAccess, withCounted, withMarks, withWindow, dropWindow, clean};
 
@@ -60,14 +62,7 @@ pub fn with_marks(session: Session, marks: [u8; 64], counts: Counts) -> Session
 pub fn without_marks(session: Session) -> Session
     ensures { λ r. ⌜ r ≡ withMarks clean session ⌝ }
 {
-    with_marks(
-        session,
-        [0; 64],
-        Counts {
-            dirty: 0,
-            erased: 0,
-        },
-    )
+    with_marks(session, [CLEAN; 64], NO_MARKS)
 }
 
 // Another window, with nothing marked.
@@ -75,6 +70,7 @@ pub fn with_window(session: Session, window: Window, first: u16, size: u16) -> S
     ensures { λ r. ⌜ r ≡ withWindow window first size session ⌝ }
 {
     let previous = session.previous;
+    let counts = NO_MARKS;
     Session {
         version: session.version,
         previous,
@@ -83,11 +79,8 @@ pub fn with_window(session: Session, window: Window, first: u16, size: u16) -> S
         window,
         first,
         size,
-        counts: Counts {
-            dirty: 0,
-            erased: 0,
-        },
-        marks: [0; 64],
+        counts,
+        marks: [CLEAN; 64],
     }
 }
 

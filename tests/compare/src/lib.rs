@@ -51,7 +51,7 @@ struct Stepped {
 
 #[repr(C)]
 #[derive(Clone, Copy, Debug, PartialEq)]
-pub struct Unsaved {
+pub struct Work {
     pub unsound: u8,
     pub blocks: u32,
     pub actions: u32,
@@ -64,7 +64,7 @@ extern "C" {
     pub fn hiomap_resume(record: Record) -> Suspended;
     pub fn hiomap_resume_changed(record: Record) -> Suspended;
     fn hiomap_step(record: Record, flash: Bytes, memory: Bytes, done: u64) -> Stepped;
-    pub fn hiomap_pending(record: Record) -> Unsaved;
+    pub fn hiomap_pending(record: Record) -> Work;
 }
 
 fn bytes(part: &mut [u8]) -> Bytes {

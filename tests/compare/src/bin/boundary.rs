@@ -4,7 +4,7 @@
 //! boundary: BENCH names the bench program.
 
 use compare::pair::{Access, Pair};
-use compare::{program, twin, Record, Suspended, Unsaved};
+use compare::{program, twin, Record, Suspended, Work};
 use std::fs::File;
 use std::mem::{offset_of, size_of, transmute, MaybeUninit};
 
@@ -16,7 +16,7 @@ const _: () = assert!(offset_of!(Record, events) == 3 && offset_of!(Record, susp
 const _: () = assert!(offset_of!(Record, first) == 6 && offset_of!(Record, size) == 8 && offset_of!(Record, dirty) == DIRTY);
 const _: () = assert!(offset_of!(Record, erased) == ERASED && offset_of!(Record, marks) == MARKS && size_of::<Record>() == RECORD);
 const _: () = assert!(offset_of!(Suspended, record) == 2 && size_of::<Suspended>() == SUSPENDED_ANSWER);
-const _: () = assert!(offset_of!(Unsaved, blocks) == 4 && offset_of!(Unsaved, actions) == 8 && size_of::<Unsaved>() == 12);
+const _: () = assert!(offset_of!(Work, blocks) == 4 && offset_of!(Work, actions) == 8 && size_of::<Work>() == 12);
 const NUMBERED: usize = 1;
 const SUSPENDED: usize = 4;
 const DIRTY: usize = 10;
