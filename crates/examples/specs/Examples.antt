@@ -12,9 +12,12 @@ use Rattle.chip.specs.Actions.{pageBytes}
 use Rattle.session.specs.declared.Window.{Window}
 use Rattle.session.specs.declared.Window.the-variants.{Closed, Read, Write}
 use Rattle.session.specs.Machine.{Setup, setUp, Machine, lent, holding}
-use Rattle.session.specs.Record.{fresh, withAccess}
+use Rattle.session.specs.Record.{fresh, withVersion, withAccess, withCounted}
 use Rattle.session.specs.declared.suspension.Suspension.{Suspension}
 use Rattle.session.specs.Suspension.{suspended, resumed, resumedChanged}
+use Rattle.soundness.specs.declared.pending_work.PendingWork.{PendingWork}
+use Rattle.soundness.specs.declared.pending_work.PendingWork.the-variants.{Unsound, Marked}
+use Rattle.soundness.specs.Pending.{pendingIn}
 use Rattle.flush.specs.Actions.{Action, program, perform}
 use Rattle.flush.specs.Window.{Advanced, advanced}
 use Rattle.mailbox.specs.Commands.{Outcome}
@@ -134,6 +137,14 @@ resumeChanged s = accessed (resumedChanged (s .machine .session)) s
 abbrev pub access : Bool → ℕ → Call
 access isSuspended byte s = changed (holding (withAccess isSuspended byte (s .machine .session)) (s .machine)) s
 
+-- other numbers of dirty and of erased blocks, or another version, are found there
+abbrev pub numbers : ℕ → ℕ → Call
+numbers dirty erased s =
+    changed (holding (withCounted (s .machine .session .marks) (record { dirty = dirty; erased = erased }) (s .machine .session)) (s .machine)) s
+
+abbrev pub found : ℕ → Call
+found n s = changed (holding (withVersion n (s .machine .session)) (s .machine)) s
+
 -- another flash and window memory are lent
 abbrev pub lend : List ℕ → List ℕ → Call
 lend flash memory s = changed (lent (s .machine .session) flash memory) s
@@ -193,6 +204,21 @@ events n s = eqb (s .machine .session .events) n
 -- the 64 marks: these, and 0 behind them
 abbrev pub marks : List ℕ → Check
 marks expected s = same (s .machine .session .marks) (padded 64 expected)
+
+-- the question is answered: so many marked blocks, and so many chip actions, or "unsound"
+abbrev pub tells : ℕ → ℕ → PendingWork → Bool
+tells blocks actions Unsound = false
+tells blocks actions (Marked b a) = eqb b blocks && eqb a actions
+
+abbrev pub pending : ℕ → ℕ → Check
+pending blocks actions s = tells blocks actions (pendingIn (s .machine .session))
+
+abbrev pub isUnsound : PendingWork → Bool
+isUnsound Unsound = true
+isUnsound (Marked b a) = false
+
+abbrev pub unsound : Check
+unsound s = isUnsound (pendingIn (s .machine .session))
 
 -- every byte of the flash
 abbrev pub flash : List ℕ → Check
@@ -455,11 +481,49 @@ example15 =
     ∷ command (5 ∷ 16 ∷ 2 ∷ []) shows (code 1 ∷ arguments [] ∷ actions 17 ∷ window Closed 0 0 ∷ marks [] ∷ memory (blocks (0x5a ∷ 0x5a ∷ [])) ∷ flash (blocks (0x5a ∷ 0xa1 ∷ 0x3c ∷ 0xa3 ∷ [])) ∷ [])
     ∷ []
 
+-- Ticket 2, "how many window blocks are marked and how many chip actions a flush would take": 17 for a dirty block and 1 for an erased one, the latest mark of
+-- a block alone; a refused command, a step and a suspend leave them. Numbers that disagree with the marks, also where their sum is right, are SYSTEM_ERROR,
+-- first, and 4 to a step; the question says "unsound" exactly then: not where the version is unsound. They are 0 where the marks are dropped, on that record
+-- too. What is pending is the number that a close or a FLUSH carries, without the marks that a FLUSH of version 1 adds
+abbrev pub example16 : Example
+example16 =
+    command (2 ∷ 1 ∷ 2 ∷ []) shows (pending 0 0 ∷ [])
+    ∷ command (6 ∷ 2 ∷ 1 ∷ 0 ∷ []) shows (window Write 1 2 ∷ pending 0 0 ∷ [])
+    ∷ command (10 ∷ 3 ∷ 0 ∷ 0 ∷ 2 ∷ 0 ∷ []) shows (marks (2 ∷ 2 ∷ []) ∷ pending 2 2 ∷ [])
+    ∷ command (7 ∷ 4 ∷ 1 ∷ 0 ∷ 1 ∷ 0 ∷ []) shows (marks (2 ∷ 1 ∷ []) ∷ pending 2 18 ∷ [])
+    ∷ command (7 ∷ 5 ∷ 1 ∷ 0 ∷ 1 ∷ 0 ∷ []) shows (marks (2 ∷ 1 ∷ []) ∷ pending 2 18 ∷ [])
+    ∷ command (7 ∷ 6 ∷ 0 ∷ 0 ∷ 2 ∷ 0 ∷ []) shows (marks (1 ∷ 1 ∷ []) ∷ pending 2 34 ∷ [])
+    ∷ command (7 ∷ 7 ∷ 1 ∷ 0 ∷ 2 ∷ 0 ∷ []) shows (refused 2 ∷ pending 2 34 ∷ [])
+    ∷ command (10 ∷ 8 ∷ 0 ∷ 0 ∷ 1 ∷ 0 ∷ []) shows (marks (2 ∷ 1 ∷ []) ∷ pending 2 18 ∷ [])
+    ∷ step 0 shows (code 1 ∷ actions 1 ∷ pending 2 18 ∷ [])
+    ∷ suspend shows (code 1 ∷ pending 2 18 ∷ [])
+    ∷ command (8 ∷ 9 ∷ []) shows (refused 6 ∷ pending 2 18 ∷ [])
+    ∷ resume shows (code 1 ∷ pending 2 18 ∷ [])
+    ∷ numbers 2 0 shows (unsound ∷ [])
+    ∷ command (8 ∷ 9 ∷ []) shows (refused 4 ∷ actions 0 ∷ unsound ∷ marks (2 ∷ 1 ∷ []) ∷ [])
+    ∷ command (2 ∷ 10 ∷ 1 ∷ []) shows (refused 4 ∷ version 2 ∷ unsound ∷ [])
+    ∷ step 0 shows (code 4 ∷ actions 0 ∷ [])
+    ∷ numbers 1 2 shows (unsound ∷ [])
+    ∷ command (8 ∷ 10 ∷ []) shows (refused 4 ∷ [])
+    ∷ numbers 1 1 shows (pending 2 18 ∷ [])
+    ∷ found 7 shows (pending 2 18 ∷ [])
+    ∷ command (8 ∷ 10 ∷ []) shows (refused 4 ∷ pending 2 18 ∷ [])
+    ∷ found 2 shows []
+    ∷ command (6 ∷ 10 ∷ 4 ∷ 0 ∷ []) shows (refused 2 ∷ actions 18 ∷ window Closed 0 0 ∷ marks [] ∷ pending 0 0 ∷ [])
+    ∷ numbers 0 9 shows (unsound ∷ [])
+    ∷ suspend shows (code 1 ∷ unsound ∷ [])
+    ∷ resumeChanged shows (code 1 ∷ marks [] ∷ pending 0 0 ∷ [])
+    ∷ command (2 ∷ 11 ∷ 1 ∷ []) shows (version 1 ∷ [])
+    ∷ command (6 ∷ 12 ∷ 1 ∷ 0 ∷ []) shows (window Write 1 2 ∷ [])
+    ∷ command (7 ∷ 13 ∷ 2 ∷ 0 ∷ 1 ∷ 0 ∷ []) shows (marks (0 ∷ 1 ∷ []) ∷ pending 1 17 ∷ [])
+    ∷ command (8 ∷ 14 ∷ 1 ∷ 0 ∷ 1 ∷ 0 ∷ []) shows (code 1 ∷ actions 34 ∷ marks [] ∷ pending 0 0 ∷ [])
+    ∷ []
+
 -- the twelve, and those
 unfoldable pub examples : List Example
 examples =
     example1 ∷ example2 ∷ example3 ∷ example4 ∷ example5 ∷ example6 ∷ example7 ∷ example8 ∷ example9 ∷ example10 ∷ example11 ∷ example12
-    ∷ example13 ∷ example14 ∷ example15
+    ∷ example13 ∷ example14 ∷ example15 ∷ example16
     ∷ []
 
 -- "The twelve examples are proved from the definitions by a single statement over a single list": its proof is `all-hold`, in proofs/AllHold.antt
