@@ -12,7 +12,7 @@ pub use events::is_control_lost;
 use marks::CLEAN;
 pub use marks::DIRTY;
 pub use marks::ERASED;
-use marks::NO_MARKS;
+pub use marks::NO_MARKS;
 pub use marks::mark_erases;
 pub use marks::mark_programs;
 pub use marks::none_marked;

@@ -13,7 +13,7 @@ pub const DIRTY: u8 = 1;
 pub const ERASED: u8 = 2;
 
 // The numbers of no marks.
-pub(crate) const NO_MARKS: Counts = Counts {
+pub const NO_MARKS: Counts = Counts {
     dirty: 0,
     erased: 0,
 };
@@ -56,8 +56,5 @@ pub fn same_counts(counts: Counts, others: Counts) -> bool
 pub fn none_marked(counts: Counts) -> bool
     ensures { λ r. ⌜ r ≡ noneMarked counts ⌝ }
 {
-    if counts.dirty != 0 {
-        return false;
-    }
-    counts.erased == 0
+    same_counts(counts, NO_MARKS)
 }
