@@ -132,7 +132,9 @@ typedef struct hiomap_stepped {
 
 /*
  * How much is pending: the marked window blocks, and the chip actions that their flush takes. `unsound` where `dirty`
- * or `erased` of the record is not the number of such marks; the two numbers are 0 then and mean nothing.
+ * or `erased` of the record is not the number of such marks; the two numbers are 0 then and mean nothing. It is no
+ * test of the rest of the record: one that is not sound for another reason, to which a command answers SYSTEM_ERROR,
+ * is answered as well.
  */
 typedef struct hiomap_pending_work {
     bool unsound;
@@ -180,8 +182,8 @@ uint32_t hiomap_command(hiomap_record *record, uint8_t (*registers)[HIOMAP_REGIS
  * the window. They act on any record, and go by `suspended`, not by the event bit 0x40. `done` is false where
  * there was nothing to do, and the record is then the one that was given. `suspended` above 0 counts as yes,
  * also above 1: a suspend has nothing to do then, and a resume makes it 0. `numbered` stays, whatever it is. A
- * window number above 2 is kept by the first two; the third makes it 0. The event byte afterwards belongs into
- * register 15.
+ * window number above 2 is kept by the first two, and so are `dirty` and `erased`, right or wrong; the third makes
+ * all of them 0, with the marks. The event byte afterwards belongs into register 15.
  */
 hiomap_suspended hiomap_suspend(hiomap_record record);
 hiomap_suspended hiomap_resume(hiomap_record record);
@@ -192,15 +194,17 @@ hiomap_suspended hiomap_resume_changed(hiomap_record record);
  *   flash      the whole flash image; the action changes it
  *   memory     the whole window memory; only read
  *   done       how many actions were done before: the caller counts one for each answer with `acted`
- * The record has no change, and the marks stay: a FLUSH after the steps does all actions again.
+ * The record has no change, and the marks stay: a FLUSH after the steps does all actions again. Whoever clears the
+ * marks by hand instead sets `dirty` and `erased` to 0 with them.
  */
 hiomap_stepped hiomap_step(hiomap_record record, hiomap_bytes flash, hiomap_const_bytes memory, uint64_t done);
 
 /*
  * How much is pending: how many window blocks are marked, and how many chip actions a flush would take that begins
- * now. It looks at the marks and their two numbers alone, and answers whatever else the record holds; of a sound
- * record `actions` is what the next FLUSH returns that adds no mark, and the next close. Steps change no mark, so
- * they do not lower it: the caller subtracts those that it has done.
+ * now. It looks at the marks and their two numbers alone. Of a sound record `actions` is the number that
+ * hiomap_command returns for a FLUSH that succeeds and adds no mark, for a CLOSE_WINDOW that succeeds, and for a
+ * create, also one that is refused for its block. Nothing pending does not mean that all was saved: RESET,
+ * hiomap_resume_changed and a fresh record drop marks without a flush. Steps change no mark, so they do not lower it.
  */
 hiomap_pending_work hiomap_pending(hiomap_record record);
 

@@ -1,3 +1,4 @@
 pub mod Answers
+pub mod Counted
 pub mod Follows
 pub mod Regular

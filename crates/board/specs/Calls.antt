@@ -1,9 +1,11 @@
 -- What each call of the board's loop leaves, over the record that C keeps: the definitions of the crates below, of the session that the
 -- record stands for. A record with a number that stands for nothing is not sound.
 use mathlib.Core.Path.{_≡_}
-use Prim.Native.Nat.{ℕ}
+use Prim.Native.Nat.{ℕ, _+_, _*_}
 use mathlib.Core.Bool.{true, false, cond}
 use mathlib.Core.List.{List, []}
+use lib.ListN.{replicate}
+use Rattle.session.specs.Marks.{marksOf}
 use Rattle.session.specs.Machine.{Setup, setUp, lent}
 use Rattle.session.specs.declared.Session.{Session}
 use Rattle.session.specs.declared.suspension.Suspension.{Suspension}
@@ -18,7 +20,7 @@ use Rattle.board.specs.declared.Record.{Record}
 use Rattle.board.specs.declared.Stepped.{Stepped}
 use Rattle.board.specs.declared.Suspended.{Suspended}
 use Rattle.board.specs.declared.Work.{Work}
-use Rattle.board.specs.Record.{isRegular, sessionOf, recordOf, withNumbers}
+use Rattle.board.specs.Record.{isYes, isRegular, sessionOf, recordOf, withNumbers}
 
 -- "B", and "T", as C passes them
 abbrev pub board : ℕ → ℕ → Setup
@@ -114,3 +116,30 @@ StaysRegular =
     × (isRegular (suspendedRecord h .held) ≡ true)
     × (isRegular (resumedRecord h .held) ≡ true)
     × (isRegular (changedRecord h .held) ≡ true)
+
+-- ---- Ticket 2 of C's record, by its own fields and whatever its other numbers are, also those that stand for nothing. Proved in proofs/Counted.antt
+
+-- its two numbers "equal a full count of the marks"
+pub record Counted (h : Record) : Type 0 where
+  pub dirty : h .dirty ≡ marksOf 1 (h .marks)
+  pub erased : h .erased ≡ marksOf 2 (h .marks)
+
+-- `hiomap_pending` answers "unsound" exactly where they do not, and otherwise from them
+abbrev pub RecordPending : Type 0
+RecordPending =
+    (h : Record)
+    → (Counted h → pendingRecord h ≡ record { unsound = false; blocks = h .dirty + h .erased; actions = 17 * h .dirty + h .erased })
+    × ((Counted h → ⊥) → pendingRecord h ≡ record { unsound = true; blocks = 0; actions = 0 })
+
+-- where they do not, a command is SYSTEM_ERROR, which leaves the record exactly as it is, and a step answers 4 and changes nothing
+abbrev pub RecordMiscounted : Type 0
+RecordMiscounted =
+    (h : Record) → (Counted h → ⊥) → (flash memory : List ℕ)
+    → ((setup : Setup) (registers : List ℕ) → commanded setup h registers flash memory ≡ systemError h registers flash memory)
+    × ((done : ℕ) → steppedRecord h memory done flash ≡ record { code = 4; yes = false; flash = flash })
+
+-- a resume with changed flash drops the marks of any record that is suspended, and both numbers are 0
+abbrev pub RecordDropped : Type 0
+RecordDropped =
+    (h : Record) → isYes (h .suspended) ≡ true
+    → (changedRecord h .held .dirty ≡ 0) × (changedRecord h .held .erased ≡ 0) × (changedRecord h .held .marks ≡ replicate 64 0)

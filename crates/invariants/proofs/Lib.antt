@@ -4,6 +4,7 @@ pub mod Demand2
 pub mod Events
 pub mod Flags
 pub mod Kept
+pub mod Marks
 mod MarksKept
 pub mod Memory
 pub mod Pending

@@ -11,16 +11,17 @@ use borrow.Author.Tests.{leb-true, not-true}
 use Rattle.units.proofs.Cases.{decided, both}
 use Rattle.session.specs.declared.Counts.{Counts}
 use Rattle.session.specs.declared.Session.{Session}
-use Rattle.session.specs.Machine.{Setup, Machine}
+use Rattle.session.specs.Machine.{Setup, Machine, holding}
 use Rattle.session.specs.Events.{controlLost, windowReset, setBits, clearBits}
-use Rattle.session.specs.Record.{clean, withAccess, dropWindow}
+use Rattle.session.specs.Record.{clean, fresh, withAccess, dropWindow}
 use Rattle.session.specs.Suspension.{answer}
-use Rattle.session.specs.Marks.{ofKind, marksOf, countsOf, sameCounts}
+use Rattle.session.specs.Marks.{dirty, ofKind, marksOf, countsOf, sameCounts}
 use Rattle.soundness.specs.Soundness.{markable, marksSound, sound, soundAt, soundIn}
 use Rattle.soundness.specs.declared.pending_work.PendingWork.the-variants.{Marked}
 use Rattle.soundness.specs.Pending.{pendingIn}
 use Rattle.soundness.proofs.Counting.{counts-same, same-counts}
 use Rattle.soundness.proofs.Facts.{counts-right, measured}
+use Rattle.flush.specs.Actions.{flushActions}
 use Rattle.flush.specs.Window.{windowActions, advanced, flushWhole}
 use Rattle.flush.proofs.Lists.{flush-count}
 use Rattle.refusals.specs.declared.Reason.{Reason}
@@ -29,24 +30,35 @@ use Rattle.refusals.specs.declared.Needs.the-variants.{Access}
 use Rattle.refusals.specs.Refusals.{flushMarks, reasonFor}
 use Rattle.refusals.proofs.Accepting.{passed}
 use Rattle.registers.specs.Registers.{commandOf}
-use Rattle.mailbox.specs.Commands.{Outcome, numberedIn}
+use Rattle.mailbox.specs.Commands.{Outcome, numbered, numberedIn, marked, flushing}
 use Rattle.mailbox.specs.Table.{Command}
 use Rattle.mailbox.specs.Mediator.{commandAt, reasonOf, reasonIn, mediate}
 use Rattle.mailbox.specs.Runs.{calledAll}
 use Rattle.mailbox.proofs.Mediating.{carried, each-command}
 use Rattle.invariants.specs.Codes.{isCreate}
-use Rattle.invariants.specs.Pending.{Counted, MiscountedRefused, RunCounted, Unmarked, drops, DroppedUnmarked, PendingExact, markedBlocks, PendingTells, PendingCarried}
+use Rattle.invariants.specs.Pending.{howMany, Counted, MiscountedRefused, RunCounted, Unmarked, drops, DroppedUnmarked, PendingExact, markedBlocks, PendingTells, Tells, PendingCarried}
 use Rattle.invariants.proofs.Kept.{sounds-unless, flush-sound}
 use Rattle.invariants.proofs.Refused.{refusals-as-said}
 use Rattle.invariants.proofs.Runs.{run-keeps}
 
 -- ---- the kept numbers
+how-many : (kind : ℕ) (marks : List ℕ) → marksOf kind marks ≡ howMany kind marks
+how-many kind [] = refl
+how-many kind (mark ∷ marks) = ap (λ (n : ℕ). ofKind kind mark + n) (how-many kind marks) ∙ one (eqb mark kind) (howMany kind marks)
+  where
+    one : (t : Bool) (n : ℕ) → cond t 1 0 + n ≡ cond t (suc n) n
+    one true n = omega arith
+    one false n = omega arith
+
 counted : (s : Session) → s .counts ≡ countsOf (s .marks) → Counted s
-counted s e = record { dirty = λ i. e i .dirty; erased = λ i. e i .erased }
+counted s e = record { dirty = (λ i. e i .dirty) ∙ how-many 1 (s .marks); erased = (λ i. e i .erased) ∙ how-many 2 (s .marks) }
 
 -- and the other way
 counts : (s : Session) → Counted s → s .counts ≡ countsOf (s .marks)
-counts s c = λ i. record { dirty = c .dirty i; erased = c .erased i }
+counts s c =
+    let dirty = c .dirty ∙ sym (how-many 1 (s .marks)) in
+    let erased = c .erased ∙ sym (how-many 2 (s .marks)) in
+    λ i. record { dirty = dirty i; erased = erased i }
 
 miscounted : (flash memory : ℕ) (s : Session) → (Counted s → ⊥) → sound flash memory s ≡ false
 miscounted flash memory s apart =
@@ -102,10 +114,9 @@ dropped-unmarked = (
         (dropping setup registers m (commandOf registers) (soundIn setup m) a d),
     λ a c. subst (λ (o : Outcome). Unmarked (o .machine .session)) (sym (refusals-as-said setup registers m .1 c a)) (none _ refl refl),
   ),
-  λ s. (
-    none (dropWindow s) refl refl,
-    λ e. subst (λ (t : Bool). Unmarked (answer t s (dropWindow (withAccess false (setBits windowReset (clearBits controlLost (s .events))) s)) .session)) (sym e) (none _ refl refl),
-  ),
+  λ s e.
+      subst (λ (t : Bool). Unmarked (answer t s (dropWindow (withAccess false (setBits windowReset (clearBits controlLost (s .events))) s)) .session)) (sym e) (none _ refl refl),
+  none fresh refl refl,
 )
 
 -- ---- the question
@@ -152,18 +163,15 @@ pending-tells setup m e =
 
 -- ---- the answer that carries it
 module _ (setup : Setup) (registers : List ℕ) (m : Machine) where
-  -- whether a code is that of a command that flushes the marks as they are
-  abbrev flushes : ℕ → Bool
-  flushes n = isCreate n || (eqb n 5 || (eqb n 8 && not (flushMarks (m .session) registers)))
-
-  abbrev Carries : ℕ → Command → Type 0
-  Carries n c =
-      (t : Bool) → reasonOf c t registers m ≡ Accepted → flushes n ≡ true
+  -- a command that closes the window, by its row
+  abbrev Closes : ℕ → Command → Type 0
+  Closes n c =
+      (t : Bool) → reasonOf c t registers m ≡ Accepted → (isCreate n || eqb n 5) ≡ true
       → c .leaves setup registers (numberedIn registers m) .actions ≡ flushWhole (numberedIn registers m) .actions
 
-  carrying : (n : ℕ) → Carries n (commandAt n)
-  carrying =
-      each-command Carries
+  closing : (n : ℕ) → Closes n (commandAt n)
+  closing =
+      each-command Closes
       (λ t a f. absurd (false≢true f))
       (λ t a f. absurd (false≢true f))
       (λ t a f. absurd (false≢true f))
@@ -171,34 +179,49 @@ module _ (setup : Setup) (registers : List ℕ) (m : Machine) where
       (λ t a f. refl)
       (λ t a f. refl)
       (λ t a f. absurd (false≢true f))
-      (λ t a f. rw (not-false-is f))
+      (λ t a f. absurd (false≢true f))
       (λ t a f. absurd (false≢true f))
       (λ t a f. absurd (false≢true f))
       (λ n t a f. absurd (false≢true (passed t (m .session) registers false Access false a .knows)))
-    where
-      not-false-is : not (flushMarks (m .session) registers) ≡ true → flushMarks (m .session) registers ≡ false
-      not-false-is f = not-true (flushMarks (m .session) registers) f
 
-  -- a flush of a window that stays as it is
+  -- the window's flush
   whole : (reasonIn setup registers m ≡ System → ⊥) → flushWhole (numberedIn registers m) .actions ≡ length (windowActions (m .session))
   unfolding flushWhole
   whole fine = rw (flush-sound setup registers m fine .0)
 
-  told : (reasonIn setup registers m ≡ System → ⊥) → mediate setup registers m .actions ≡ flushWhole (numberedIn registers m) .actions
-      → pendingIn (m .session) ≡ Marked (markedBlocks (m .session .marks)) (mediate setup registers m .actions)
-  told fine e =
-      pending-tells setup m (sounds-unless setup registers m fine)
-      ∙ ap (Marked (markedBlocks (m .session .marks))) (sym (e ∙ whole fine))
+  -- and that of a FLUSH, whose own marks the number makes no difference to
+  added : (t : Bool) → cond t (marked dirty (numbered (m .session) registers) registers) (numbered (m .session) registers) .marks
+      ≡ cond t (marked dirty (m .session) registers) (m .session) .marks
+  added true = refl
+  added false = refl
+
+  flushed : (reasonIn setup registers m ≡ System → ⊥) → commandOf registers ≡ 8 → reasonIn setup registers m ≡ Accepted
+      → flushing (m .session) registers .marks ≡ m .session .marks
+      → flushWhole (holding (flushing (numbered (m .session) registers) registers) m) .actions ≡ length (windowActions (m .session))
+  unfolding flushWhole
+  flushed fine c a same =
+      rw (flush-sound setup registers m fine .1 c a)
+      (ap (λ (marks : List ℕ). length (flushActions marks)) (added (flushMarks (m .session) registers) ∙ same))
+
+  told : (reasonIn setup registers m ≡ System → ⊥) → mediate setup registers m .actions ≡ length (windowActions (m .session)) → Tells setup registers m
+  told fine e = pending-tells setup m (sounds-unless setup registers m fine) ∙ ap (Marked (markedBlocks (m .session .marks))) (sym e)
 
   other : {r : Reason} → (r ≡ System → ⊥) → reasonIn setup registers m ≡ r → reasonIn setup registers m ≡ System → ⊥
   other n e q = n (sym e ∙ q)
 
 pub pending-carried : PendingCarried
+unfolding commandAt
 pending-carried setup registers m = (
+  λ a c same.
+      let fine = other setup registers m (λ q. let z : _≡_ {A = ℕ} 0 1 = cc in omega arith) a in
+      told setup registers m fine (ap (λ (o : Outcome). o .actions) (carried setup registers m 8 c a) ∙ flushed setup registers m fine c a same),
   λ a f.
-      told setup registers m (other setup registers m (λ q. let z : _≡_ {A = ℕ} 0 1 = cc in omega arith) a)
-      (ap (λ (o : Outcome). o .actions) (carried setup registers m (commandOf registers) refl a) ∙ carrying setup registers m (commandOf registers) (soundIn setup m) a f),
+      let fine = other setup registers m (λ q. let z : _≡_ {A = ℕ} 0 1 = cc in omega arith) a in
+      told setup registers m fine
+      (ap (λ (o : Outcome). o .actions) (carried setup registers m (commandOf registers) refl a)
+      ∙ closing setup registers m (commandOf registers) (soundIn setup m) a f
+      ∙ whole setup registers m fine),
   λ a c.
-      told setup registers m (other setup registers m (λ q. let z : _≡_ {A = ℕ} 0 1 = cc in omega arith) a)
-      (ap (λ (o : Outcome). o .actions) (refusals-as-said setup registers m .1 c a)),
+      let fine = other setup registers m (λ q. let z : _≡_ {A = ℕ} 0 1 = cc in omega arith) a in
+      told setup registers m fine (ap (λ (o : Outcome). o .actions) (refusals-as-said setup registers m .1 c a) ∙ whole setup registers m fine),
 )

@@ -37,8 +37,8 @@ CommandEvents =
 abbrev pub EventsShown : Type 0
 EventsShown = (setup : Setup) (registers : List ℕ) (m : Machine) → getD (mediate setup registers m .registers) 15 0 ≡ eventsAfter setup registers m
 
--- "bit 0x40 disagreeing with the suspension is SYSTEM_ERROR, first as before", whatever the command, and 4 for a step
+-- "bit 0x40 disagreeing with the suspension is SYSTEM_ERROR, first as before", whatever the command; a step "answers 4 .. and changes nothing"
 abbrev pub DisagreeingRefused : Type 0
 DisagreeingRefused =
     (setup : Setup) (registers : List ℕ) (m : Machine) → (isSet 0x40 (m .session .events) ≡ m .session .suspended → ⊥)
-    → (reasonIn setup registers m ≡ System) × ((done : ℕ) → advanced m done .code ≡ 4)
+    → (reasonIn setup registers m ≡ System) × ((done : ℕ) → advanced m done ≡ record { code = 4; yes = false; flash = m .flash })

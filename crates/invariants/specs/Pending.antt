@@ -1,39 +1,43 @@
--- The kept numbers of dirty and erased blocks, and what the question tells of them, with the papers' own numbers: document 02, Ticket 2. Proved in
+-- The kept numbers of dirty and erased blocks, and what `pending` tells of them, with the papers' own numbers: document 02, Ticket 2. Proved in
 -- proofs/Pending.antt.
 use mathlib.Core.Path.{_≡_}
-use mathlib.Core.Bool.{Bool, true, cond, not, _&&_, _||_}
+use mathlib.Core.Bool.{Bool, true, false, cond, _||_}
 use mathlib.Core.List.{List, [], _∷_}
-use Prim.Native.Nat.{ℕ, _+_, _*_}
+use Prim.Native.Nat.{ℕ, suc, _+_, _*_}
 use lib.Dec.{eqb}
 use lib.ListN.{length, replicate}
 use Rattle.session.specs.declared.Session.{Session}
 use Rattle.session.specs.Machine.{Setup, Machine}
-use Rattle.session.specs.Marks.{marksOf}
-use Rattle.session.specs.Record.{dropWindow}
+use Rattle.session.specs.Record.{fresh}
 use Rattle.session.specs.Suspension.{resumedChanged}
 use Rattle.soundness.specs.Soundness.{soundIn}
 use Rattle.soundness.specs.declared.pending_work.PendingWork.the-variants.{Unsound, Marked}
 use Rattle.soundness.specs.Pending.{pendingIn}
 use Rattle.flush.specs.Window.{windowActions, advanced}
 use Rattle.refusals.specs.declared.Reason.the-variants.{Accepted, System, Argument}
-use Rattle.refusals.specs.Refusals.{flushMarks}
 use Rattle.registers.specs.Registers.{commandOf}
+use Rattle.mailbox.specs.Commands.{flushing}
 use Rattle.mailbox.specs.Mediator.{reasonIn, mediate}
 use Rattle.mailbox.specs.Runs.{Call, calledAll}
 use Rattle.invariants.specs.Codes.{isCreate}
 
 -- ---- the kept numbers
 
+-- "a full count": how many of the marks are this one
+abbrev pub howMany : ℕ → List ℕ → ℕ
+howMany kind [] = 0
+howMany kind (mark ∷ marks) = cond (eqb mark kind) (suc (howMany kind marks)) (howMany kind marks)
+
 -- they "equal a full count of the marks": of those that are 1, and of those that are 2
 pub record Counted (s : Session) : Type 0 where
-  pub dirty : s .counts .dirty ≡ marksOf 1 (s .marks)
-  pub erased : s .counts .erased ≡ marksOf 2 (s .marks)
+  pub dirty : s .counts .dirty ≡ howMany 1 (s .marks)
+  pub erased : s .counts .erased ≡ howMany 2 (s .marks)
 
--- "disagreement is SYSTEM_ERROR, first as before", whatever the command, and 4 for a step
+-- "disagreement is SYSTEM_ERROR, first as before", whatever the command; a step "answers 4 .. and changes nothing"
 abbrev pub MiscountedRefused : Type 0
 MiscountedRefused =
     (setup : Setup) (registers : List ℕ) (m : Machine) → (Counted (m .session) → ⊥)
-    → (reasonIn setup registers m ≡ System) × ((done : ℕ) → advanced m done .code ≡ 4)
+    → (reasonIn setup registers m ≡ System) × ((done : ℕ) → advanced m done ≡ record { code = 4; yes = false; flash = m .flash })
 
 -- "correct after every call on a sound session": it stays sound (`CommandKeeps`, `AccessKeeps`), and a sound session's are. After any list of calls
 abbrev pub RunCounted : Type 0
@@ -49,17 +53,19 @@ pub record Unmarked (s : Session) : Type 0 where
 abbrev pub drops : ℕ → Bool
 drops code = eqb code 1 || (isCreate code || (eqb code 5 || eqb code 8))
 
--- where no check refuses them; a create also where it is refused for its argument; and resume with changed flash, of any session, sound or not
+-- where no check refuses them; a create also where it is refused for its argument; resume with changed flash, of any session, sound or not; and in a fresh
+-- session there are none
 abbrev pub DroppedUnmarked : Type 0
 DroppedUnmarked =
     ((setup : Setup) (registers : List ℕ) (m : Machine)
     → (reasonIn setup registers m ≡ Accepted → drops (commandOf registers) ≡ true → Unmarked (mediate setup registers m .machine .session))
     × (reasonIn setup registers m ≡ Argument → isCreate (commandOf registers) ≡ true → Unmarked (mediate setup registers m .machine .session)))
-    × ((s : Session) → Unmarked (dropWindow s) × (s .suspended ≡ true → Unmarked (resumedChanged s .session)))
+    × ((s : Session) → s .suspended ≡ true → Unmarked (resumedChanged s .session))
+    × Unmarked fresh
 
--- ---- the question
+-- ---- what `pending` answers
 
--- it "answers 'unsound' exactly then", whatever else the session is, and otherwise from the kept numbers
+-- "unsound" exactly where the numbers disagree, whatever else the session is, and otherwise what they say
 abbrev pub PendingExact : Type 0
 PendingExact =
     (s : Session)
@@ -71,22 +77,21 @@ abbrev pub markedBlocks : List ℕ → ℕ
 markedBlocks [] = 0
 markedBlocks (mark ∷ marks) = cond (eqb mark 0) 0 1 + markedBlocks marks
 
--- on a sound session it tells "how many window blocks are marked and how many chip actions a flush would take"
+-- of a sound session it tells "how many window blocks are marked and how many chip actions a flush would take"
 abbrev pub PendingTells : Type 0
 PendingTells =
     (setup : Setup) (m : Machine) → soundIn setup m ≡ true
     → pendingIn (m .session) ≡ Marked (markedBlocks (m .session .marks)) (length (windowActions (m .session)))
 
--- a command that flushes the marks as they are: a FLUSH that adds none, and one that closes the window
-abbrev pub flushesThem : Session → List ℕ → Bool
-flushesThem s registers =
-    isCreate (commandOf registers) || (eqb (commandOf registers) 5 || (eqb (commandOf registers) 8 && not (flushMarks s registers)))
+-- what it tells is what the answer to a command carries
+abbrev pub Tells : Setup → List ℕ → Machine → Type 0
+Tells setup registers m = pendingIn (m .session) ≡ Marked (markedBlocks (m .session .marks)) (mediate setup registers m .actions)
 
--- and the answer to that command carries the same number of actions, to a create also where it is refused for its argument
+-- to a FLUSH (8) "that adds no mark": of version 2, with L = 0, and where L names only blocks that are dirty already; to a CLOSE_WINDOW (5) and a create, which
+-- close the window; and to a create that is refused for its argument
 abbrev pub PendingCarried : Type 0
 PendingCarried =
     (setup : Setup) (registers : List ℕ) (m : Machine)
-    → (reasonIn setup registers m ≡ Accepted → flushesThem (m .session) registers ≡ true
-    → pendingIn (m .session) ≡ Marked (markedBlocks (m .session .marks)) (mediate setup registers m .actions))
-    × (reasonIn setup registers m ≡ Argument → isCreate (commandOf registers) ≡ true
-    → pendingIn (m .session) ≡ Marked (markedBlocks (m .session .marks)) (mediate setup registers m .actions))
+    → (reasonIn setup registers m ≡ Accepted → commandOf registers ≡ 8 → flushing (m .session) registers .marks ≡ m .session .marks → Tells setup registers m)
+    × (reasonIn setup registers m ≡ Accepted → (isCreate (commandOf registers) || eqb (commandOf registers) 5) ≡ true → Tells setup registers m)
+    × (reasonIn setup registers m ≡ Argument → isCreate (commandOf registers) ≡ true → Tells setup registers m)

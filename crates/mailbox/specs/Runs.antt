@@ -1,5 +1,5 @@
 -- A run of calls: "every call gets what the one before left" (document 00, demand 3). A call more of the controller's side, or a thing more that others do to
--- what is lent, is a case more here.
+-- what is lent, is a case more here; one that only answers, as `pending` does, leaves nothing to say.
 use Prim.Native.Nat.{ℕ}
 use mathlib.Core.List.{List, [], _∷_}
 use lib.ListN.{length, take}

@@ -20,7 +20,7 @@ use session::Session;
 use session::acknowledge_events;
 use session::of_kind;
 use session::with_access;
-use session::with_marks;
+use session::with_counted;
 use session::without_marks;
 use units::Blocks;
 ghost use mathlib.Core.Path.{_≡_};
@@ -163,7 +163,7 @@ fn mark_named(session: Session, registers: [u8; 16], mark: u8) -> Session
         mark,
     );
     let after = marking.marks;
-    with_marks(session, after, marking.counts)
+    with_counted(session, after, marking.counts)
 }
 
 // Marks, and their numbers.

@@ -1,4 +1,4 @@
--- The marks of window blocks, by what they ask of a flush: document 01, "Session" and "Chip actions".
+-- The marks of window blocks, by what they ask of a flush: document 01, "Session" and "Chip actions"; and their numbers: 02, Ticket 2.
 use Prim.Native.Nat.{ℕ, _+_}
 use mathlib.Core.Bool.{Bool, cond, _&&_, _||_}
 use mathlib.Core.List.{List, [], _∷_}
@@ -37,7 +37,7 @@ marksOf kind (mark ∷ marks) = ofKind kind mark + marksOf kind marks
 abbrev pub countsOf : List ℕ → Counts
 countsOf marks = record { dirty = marksOf dirty marks; erased = marksOf erasedMark marks }
 
--- whether two such numbers are the same
+-- whether the number of each kind is the same in both
 abbrev pub sameCounts : Counts → Counts → Bool
 sameCounts a b = eqb (a .dirty) (b .dirty) && eqb (a .erased) (b .erased)
 

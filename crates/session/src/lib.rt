@@ -12,14 +12,14 @@ pub use events::is_control_lost;
 use marks::CLEAN;
 pub use marks::DIRTY;
 pub use marks::ERASED;
-pub use marks::NO_MARKS;
+pub use marks::ZERO_COUNTS;
 pub use marks::mark_erases;
 pub use marks::mark_programs;
 pub use marks::none_marked;
 pub use marks::of_kind;
 pub use marks::same_counts;
 pub use setters::with_access;
-pub use setters::with_marks;
+pub use setters::with_counted;
 pub use setters::with_previous;
 pub use setters::with_version;
 pub use setters::with_window;
@@ -82,7 +82,7 @@ pub fn new_session() -> Session
         window: Window::Closed,
         first: 0,
         size: 0,
-        counts: NO_MARKS,
+        counts: ZERO_COUNTS,
         marks: [CLEAN; 64],
     }
 }

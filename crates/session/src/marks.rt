@@ -12,8 +12,8 @@ pub const DIRTY: u8 = 1;
 // The block is to become FF.
 pub const ERASED: u8 = 2;
 
-// The numbers of no marks.
-pub const NO_MARKS: Counts = Counts {
+// How many of each kind there are where nothing is marked.
+pub const ZERO_COUNTS: Counts = Counts {
     dirty: 0,
     erased: 0,
 };
@@ -42,7 +42,7 @@ pub fn of_kind(mark: u8, kind: u8) -> u8
     if mark == kind { 1 } else { 0 }
 }
 
-// Whether two numbers of each kind are the same.
+// Whether the number of each kind is the same in both.
 pub fn same_counts(counts: Counts, others: Counts) -> bool
     ensures { λ r. ⌜ r ≡ sameCounts counts others ⌝ }
 {
@@ -52,9 +52,9 @@ pub fn same_counts(counts: Counts, others: Counts) -> bool
     counts.erased == others.erased
 }
 
-// Whether no block is marked, by the numbers.
+// Whether nothing is marked, by these numbers.
 pub fn none_marked(counts: Counts) -> bool
     ensures { λ r. ⌜ r ≡ noneMarked counts ⌝ }
 {
-    same_counts(counts, NO_MARKS)
+    same_counts(counts, ZERO_COUNTS)
 }

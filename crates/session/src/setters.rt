@@ -5,7 +5,7 @@ use crate::Previous;
 use crate::Session;
 use crate::Window;
 use crate::marks::CLEAN;
-use crate::marks::NO_MARKS;
+use crate::marks::ZERO_COUNTS;
 ghost use mathlib.Core.Path.{_≡_};
 ghost use Rattle.session.specs.Record.{withVersion, withPrevious, withAccess, withCounted, withMarks, withWindow, dropWindow, clean};
 
@@ -49,7 +49,7 @@ pub fn with_access(session: Session, suspended: bool, events: u8) -> Session
 }
 
 // Other marks, and the numbers kept of them.
-pub fn with_marks(session: Session, marks: [u8; 64], counts: Counts) -> Session
+pub fn with_counted(session: Session, marks: [u8; 64], counts: Counts) -> Session
     ensures { λ r. ⌜ r ≡ withCounted marks counts session ⌝ }
 {
     let mut next = session;
@@ -62,7 +62,7 @@ pub fn with_marks(session: Session, marks: [u8; 64], counts: Counts) -> Session
 pub fn without_marks(session: Session) -> Session
     ensures { λ r. ⌜ r ≡ withMarks clean session ⌝ }
 {
-    with_marks(session, [CLEAN; 64], NO_MARKS)
+    with_counted(session, [CLEAN; 64], ZERO_COUNTS)
 }
 
 // Another window, with nothing marked.
@@ -70,7 +70,7 @@ pub fn with_window(session: Session, window: Window, first: u16, size: u16) -> S
     ensures { λ r. ⌜ r ≡ withWindow window first size session ⌝ }
 {
     let previous = session.previous;
-    let counts = NO_MARKS;
+    let counts = ZERO_COUNTS;
     Session {
         version: session.version,
         previous,

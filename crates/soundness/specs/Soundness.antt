@@ -20,6 +20,10 @@ sizeSound most length = leb 1 (roundUp length) && (leb (roundUp length) most && 
 unfoldable pub sizesSound : ℕ → ℕ → Bool
 sizesSound flash memory = sizeSound 65535 flash && sizeSound 64 memory
 
+-- "the version is 0 to 2"
+abbrev pub versionSound : Session → Bool
+versionSound s = leb (s .version) 2
+
 -- "in a sound session, 0x40 is set exactly while access is suspended"
 abbrev pub accessSound : Bool → ℕ → Bool
 accessSound true events = isSet controlLost events
@@ -54,7 +58,7 @@ countsSound s = sameCounts (s .counts) (countsOf (s .marks))
 -- "It is sound when: the version is 0 to 2; .."
 unfoldable pub sessionSound : ℕ → ℕ → Session → Bool
 sessionSound S C s =
-    leb (s .version) 2
+    versionSound s
     && (accessSound (s .suspended) (s .events)
     && (windowSound (s .window) (s .first) (s .size) S C
     && (marksSound (markable (s .window) (s .size)) (s .marks) && countsSound s)))

@@ -2,7 +2,7 @@
 use session::Counts;
 use session::DIRTY;
 use session::ERASED;
-use session::NO_MARKS;
+use session::ZERO_COUNTS;
 use session::of_kind;
 ghost use mathlib.Core.Path.{_≡_};
 ghost use mathlib.Core.Bool.{cond};
@@ -25,7 +25,7 @@ pub(crate) fn look_at(marks: [u8; 64], markable: u16) -> Look
 {
     let limit = narrow(markable);
     let mut within = true;
-    let mut counts = NO_MARKS;
+    let mut counts = ZERO_COUNTS;
     let mut n: u8 = 0;
     let mut i = 0;
     while i < 64 {

@@ -8,7 +8,10 @@ ghost use Rattle.soundness.specs.Pending.{pendingIn};
 // The chip actions of a dirty block: the erase, and 16 pages.
 const DIRTY_ACTIONS: u32 = 17;
 
-// What is pending.
+// A look at the numbers alone: any block may be marked.
+const EVERY_BLOCK: u16 = 64;
+
+// How much is pending.
 pub enum PendingWork {
     // A kept number disagrees with the marks.
     Unsound,
@@ -22,7 +25,7 @@ pub fn pending(session: Session) -> PendingWork
 {
     let marks = session.marks;
     let counts = session.counts;
-    if !same_counts(counts, look_at(marks, 64).counts) {
+    if !same_counts(counts, look_at(marks, EVERY_BLOCK).counts) {
         return PendingWork::Unsound;
     }
     let dirty = counts.dirty as u32;

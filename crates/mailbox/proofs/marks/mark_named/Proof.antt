@@ -25,14 +25,14 @@ mark-blocks-requires c κs =
     let s = c .before .before .before .before in
     (subst (λ (b : BlockRange). b .start + b .count ≤ 64) (sym (s .blocks-named .ensures)) (s .before .pre .0), s .before .pre .1)
 
-with-marks-requires : tie.Need-with-marks-requires
-with-marks-requires c κs = search needs
+with-counted-requires : tie.Need-with-counted-requires
+with-counted-requires c κs = search needs
 
 returns : tie.Need-returns
 returns c =
     let a = c .before .before .before .before .before .before .before .before .args in
     let m = c .before .before .mark-blocks in
-    c .with-marks .ensures
+    c .with-counted .ensures
     ∙ ap (λ (n : Counts). withCounted (m .result .marks) n (a .session)) (m .ensures .1)
     ∙ ap (λ (t : List ℕ). withMarks t (a .session))
     (m .ensures .0
@@ -46,5 +46,5 @@ mark-named-spec =
     cast-mark-blocks
     cast-mark-blocks-2
     mark-blocks-requires
-    with-marks-requires
+    with-counted-requires
     returns)

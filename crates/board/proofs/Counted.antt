@@ -1,0 +1,71 @@
+-- The kept numbers of C's record: the claims stand in specs/Calls.antt.
+use mathlib.Core.Path.{_≡_, refl, ap, _∙_}
+use mathlib.Core.Bool.{Bool, true, false, cond}
+use mathlib.Core.List.{List}
+use mathlib.Core.Logic.{⊎-elim}
+use Prim.Native.Nat.{ℕ}
+use lib.ListN.{length}
+use Rattle.units.proofs.Cases.{decided}
+use Rattle.session.specs.Machine.{Setup, lent}
+use Rattle.session.specs.Marks.{countsOf, sameCounts}
+use Rattle.soundness.specs.Soundness.{sound, soundAt, soundIn}
+use Rattle.soundness.proofs.Counting.{counts-same, same-counts}
+use Rattle.soundness.proofs.Facts.{counts-right}
+use Rattle.flush.specs.Window.{advanced}
+use Rattle.mailbox.specs.Commands.{Outcome}
+use Rattle.mailbox.proofs.Mediating.{unsound-as}
+use Rattle.board.specs.declared.Record.{Record}
+use Rattle.board.specs.Record.{isRegular, sessionOf}
+use Rattle.board.specs.Calls.{kept, left, commanded, systemError, Counted, RecordPending, RecordMiscounted, RecordDropped}
+use Rattle.board.proofs.Answers.{nothing-lost}
+
+module _ (h : Record) where
+  counted : sessionOf h .counts ≡ countsOf (h .marks) → Counted h
+  counted e = record { dirty = λ i. e i .dirty; erased = λ i. e i .erased }
+
+  counts : Counted h → sessionOf h .counts ≡ countsOf (h .marks)
+  counts c = λ i. record { dirty = c .dirty i; erased = c .erased i }
+
+pub record-pending : RecordPending
+record-pending h = (
+  λ c. rw (same-counts (sessionOf h .counts) (countsOf (h .marks)) (counts h c)),
+  λ n. ⊎-elim
+      (λ (e : sameCounts (sessionOf h .counts) (countsOf (h .marks)) ≡ true). absurd (n (counted h (counts-same (sessionOf h .counts) (countsOf (h .marks)) e))))
+      (λ (e : sameCounts (sessionOf h .counts) (countsOf (h .marks)) ≡ false). rw e)
+      (decided (sameCounts (sessionOf h .counts) (countsOf (h .marks)))),
+)
+
+module _ (h : Record) (apart : Counted h → ⊥) (flash memory : List ℕ) where
+  unsound : sound (length flash) (length memory) (sessionOf h) ≡ false
+  unsound =
+      ⊎-elim
+      (λ (e : sound (length flash) (length memory) (sessionOf h) ≡ true). absurd (apart (counted h (counts-right (length flash) (length memory) (sessionOf h) e))))
+      (λ (e : sound (length flash) (length memory) (sessionOf h) ≡ false). e)
+      (decided (sound (length flash) (length memory) (sessionOf h)))
+
+  unsound-at : (setup : Setup) → soundIn setup (lent (sessionOf h) flash memory) ≡ false
+  unfolding soundAt
+  unsound-at setup = rw unsound
+
+  command : (setup : Setup) (registers : List ℕ) → commanded setup h registers flash memory ≡ systemError h registers flash memory
+  unfolding commanded
+  command setup registers =
+      ⊎-elim
+      (λ (e : isRegular h ≡ true).
+      rw e
+      (ap (kept (h .previous)) (unsound-as setup registers (lent (sessionOf h) flash memory) (unsound-at setup))
+      ∙ ap (λ (r : Record). left r (systemError h registers flash memory .registers) 0 flash memory) (nothing-lost .1 h e)))
+      (λ (e : isRegular h ≡ false). rw e)
+      (decided (isRegular h))
+
+  step : (done : ℕ) → cond (isRegular h) (advanced (lent (sessionOf h) flash memory) done) (record { code = 4; yes = false; flash = flash })
+      ≡ record { code = 4; yes = false; flash = flash }
+  unfolding advanced
+  step done =
+      ⊎-elim (λ (e : isRegular h ≡ true). rw (e, unsound)) (λ (e : isRegular h ≡ false). rw e) (decided (isRegular h))
+
+pub record-miscounted : RecordMiscounted
+record-miscounted h apart flash memory = (command h apart flash memory, step h apart flash memory)
+
+pub record-dropped : RecordDropped
+record-dropped h e = rw e (refl, refl, refl)

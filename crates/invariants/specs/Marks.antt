@@ -1,0 +1,47 @@
+-- What every command makes of the window and of the marks, with the papers' own numbers: document 01, "Commands". Proved in proofs/Marks.antt.
+use mathlib.Core.Path.{_≡_}
+use mathlib.Core.Bool.{Bool, false, cond, _&&_, _||_}
+use mathlib.Core.List.{List}
+use Prim.Native.Nat.{ℕ, _+_, _-_}
+use lib.Dec.{leb, ltb, eqb}
+use lib.ListN.{length, getD}
+use Rattle.units.specs.Units.{roundUp}
+use Rattle.session.specs.declared.Session.{Session}
+use Rattle.session.specs.Machine.{Setup, Machine}
+use Rattle.refusals.specs.declared.Reason.the-variants.{Accepted}
+use Rattle.registers.specs.Registers.{commandOf, number}
+use Rattle.mailbox.specs.Mediator.{reasonIn, mediate}
+use Rattle.invariants.specs.Pending.{drops}
+
+-- the named blocks: "version 1: flash block a (0-1) and L bytes (2-5); L is rounded up to k blocks", counted from the window's first block; "Version 2: window
+-- block w (0-1) and k blocks (2-3)"
+abbrev pub isNamed : Session → List ℕ → ℕ → Bool
+isNamed s registers block =
+    let first = cond (ltb (s .version) 2) (number 2 0 registers - s .first) (number 2 0 registers) in
+    let count = cond (ltb (s .version) 2) (roundUp (number 4 2 registers)) (number 2 2 registers) in
+    leb first block && ltb block (first + count)
+
+-- "The latest mark of a block counts": after a MARK_DIRTY (7) each named block is dirty (1), after an ERASE (10) erased (2), and every other block has the mark that
+-- it had
+abbrev pub MarksAsSaid : Type 0
+MarksAsSaid =
+    (setup : Setup) (registers : List ℕ) (m : Machine) → length (m .session .marks) ≡ 64 → reasonIn setup registers m ≡ Accepted → (block : ℕ)
+    → (commandOf registers ≡ 7
+    → getD (mediate setup registers m .machine .session .marks) block 0 ≡ cond (isNamed (m .session) registers block) 1 (getD (m .session .marks) block 0))
+    × (commandOf registers ≡ 10
+    → getD (mediate setup registers m .machine .session .marks) block 0 ≡ cond (isNamed (m .session) registers block) 2 (getD (m .session .marks) block 0))
+
+-- a session with the window, the marks and the kept numbers of another
+pub record SameMarks (s t : Session) : Type 0 where
+  pub window : t .window ≡ s .window
+  pub first : t .first ≡ s .first
+  pub size : t .size ≡ s .size
+  pub marks : t .marks ≡ s .marks
+  pub counts : t .counts ≡ s .counts
+
+-- commands that neither drop marks nor set any: GET_INFO, "Window and marks stay", GET_FLASH_INFO, ACK and every unknown code, refused or not, of any session.
+-- What a refusal of another leaves is said by `RefusalsAsSaid`
+abbrev pub MarksStay : Type 0
+MarksStay =
+    (setup : Setup) (registers : List ℕ) (m : Machine) → (drops (commandOf registers) || (eqb (commandOf registers) 7 || eqb (commandOf registers) 10)) ≡ false
+    → SameMarks (m .session) (mediate setup registers m .machine .session)
