@@ -5,7 +5,7 @@
  * Ownership. The caller owns everything: the record of the session, the registers, the flash image and
  * the window memory. A call borrows what it is given and keeps nothing of it when it returns; there is
  * no hidden state and no allocation, so several records may be in use side by side. Functions that take
- * a record by value leave the caller's alone and give the new one back.
+ * a record by value leave the caller's alone; a suspend or resume gives the new one back.
  *
  * What the caller must see to, since nothing here can check it:
  *   - pointers are not null, aligned for their type, and lead to initialised memory of the stated size,
@@ -14,8 +14,8 @@
  *     nobody else writes to them during the call: an interrupt or another thread must wait. The window
  *     memory is written by the host between the calls, and not during one.
  * Every value is taken: any content of the record and the registers and any buffer length gets the
- * answer that the rules give it, SYSTEM_ERROR (4) where the record or the sizes are not sound, or where lpc
- * and the blocks of the window memory together are above 65,536.
+ * answer that the rules give it, for a command and a step SYSTEM_ERROR (4) where the record or the sizes are not
+ * sound, and for a command where lpc and the blocks of the window memory together are above 65,536.
  */
 #ifndef HIOMAP_H
 #define HIOMAP_H
@@ -203,7 +203,7 @@ hiomap_stepped hiomap_step(hiomap_record record, hiomap_bytes flash, hiomap_cons
  * How much is pending: how many window blocks are marked, and how many chip actions a flush would take that begins
  * now. It looks at the marks and their two numbers alone. Of a sound record `actions` is the number that
  * hiomap_command returns for a FLUSH that succeeds and adds no mark, for a CLOSE_WINDOW that succeeds, and for a
- * create, also one that is refused for its block. Nothing pending does not mean that all was saved: RESET,
+ * create that succeeds or is refused for its block. Nothing pending does not mean that all was saved: RESET,
  * hiomap_resume_changed and a fresh record drop marks without a flush. Steps change no mark, so they do not lower it.
  */
 hiomap_pending_work hiomap_pending(hiomap_record record);

@@ -159,14 +159,14 @@ int main(void) {
     session.marks[1] = 2;
     session.dirty = session.erased = 1;
     print_pending();
-    session.dirty = 2;                /* and here they are not; */
+    session.dirty = 2;                /* here they are not */
     print_pending();
     change_access("suspend", hiomap_suspend); /* suspend and resume act on any record */
     printf("window %u\n", session.window);
     change_access("resume changed", hiomap_resume_changed);
     printf("window %u\n", session.window);
     print_pending();                  /* a window that is dropped leaves nothing */
-    session.version = 2;
+    session.version = 2;              /* so that nothing is wrong but what comes next: */
     session.suspended = 2;            /* a 2 for yes or no is not sound either; a resume takes it for yes */
     COMMAND(2, 17, 2);
     change_access("resume", hiomap_resume);

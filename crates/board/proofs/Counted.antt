@@ -1,6 +1,6 @@
 -- The kept numbers of C's record: the claims stand in specs/Calls.antt.
 use mathlib.Core.Path.{_≡_, refl, ap, _∙_}
-use mathlib.Core.Bool.{Bool, true, false, cond}
+use mathlib.Core.Bool.{true, false, cond}
 use mathlib.Core.List.{List}
 use mathlib.Core.Logic.{⊎-elim}
 use Prim.Native.Nat.{ℕ}
@@ -12,7 +12,6 @@ use Rattle.soundness.specs.Soundness.{sound, soundAt, soundIn}
 use Rattle.soundness.proofs.Counting.{counts-same, same-counts}
 use Rattle.soundness.proofs.Facts.{counts-right}
 use Rattle.flush.specs.Window.{advanced}
-use Rattle.mailbox.specs.Commands.{Outcome}
 use Rattle.mailbox.proofs.Mediating.{unsound-as}
 use Rattle.board.specs.declared.Record.{Record}
 use Rattle.board.specs.Record.{isRegular, sessionOf}

@@ -119,7 +119,7 @@ StaysRegular =
 
 -- ---- Ticket 2 of C's record, by its own fields and whatever its other numbers are, also those that stand for nothing. Proved in proofs/Counted.antt
 
--- its two numbers "equal a full count of the marks"
+-- its two numbers "equal a full count of the marks" (that `marksOf` is one is `CountsAsSaid`, crate invariants)
 pub record Counted (h : Record) : Type 0 where
   pub dirty : h .dirty ≡ marksOf 1 (h .marks)
   pub erased : h .erased ≡ marksOf 2 (h .marks)

@@ -138,12 +138,12 @@ abbrev pub access : Bool → ℕ → Call
 access isSuspended byte s = changed (holding (withAccess isSuspended byte (s .machine .session)) (s .machine)) s
 
 -- other numbers of dirty and of erased blocks, or another version, are found there
-abbrev pub numbers : ℕ → ℕ → Call
-numbers dirty erased s =
+abbrev pub numbersFound : ℕ → ℕ → Call
+numbersFound dirty erased s =
     changed (holding (withCounted (s .machine .session .marks) (record { dirty = dirty; erased = erased }) (s .machine .session)) (s .machine)) s
 
-abbrev pub found : ℕ → Call
-found n s = changed (holding (withVersion n (s .machine .session)) (s .machine)) s
+abbrev pub versionFound : ℕ → Call
+versionFound n s = changed (holding (withVersion n (s .machine .session)) (s .machine)) s
 
 -- another flash and window memory are lent
 abbrev pub lend : List ℕ → List ℕ → Call
@@ -482,7 +482,7 @@ example15 =
     ∷ []
 
 -- Ticket 2, "how many window blocks are marked and how many chip actions a flush would take": 17 for a dirty block and 1 for an erased one, the latest mark of
--- a block alone; a refused command, a step and a suspend leave them. Numbers that disagree with the marks, also where their sum is right, are SYSTEM_ERROR,
+-- a block alone; a refused mark, a step and a suspend leave them. Numbers that disagree with the marks, also where their sum is right, are SYSTEM_ERROR,
 -- first, and 4 to a step; the question says "unsound" exactly then: not where the version is unsound. They are 0 where the marks are dropped, on that record
 -- too. What is pending is the number that a close or a FLUSH carries, without the marks that a FLUSH of version 1 adds
 abbrev pub example16 : Example
@@ -499,24 +499,29 @@ example16 =
     ∷ suspend shows (code 1 ∷ pending 2 18 ∷ [])
     ∷ command (8 ∷ 9 ∷ []) shows (refused 6 ∷ pending 2 18 ∷ [])
     ∷ resume shows (code 1 ∷ pending 2 18 ∷ [])
-    ∷ numbers 2 0 shows (unsound ∷ [])
+    ∷ numbersFound 2 0 shows (unsound ∷ [])
     ∷ command (8 ∷ 9 ∷ []) shows (refused 4 ∷ actions 0 ∷ unsound ∷ marks (2 ∷ 1 ∷ []) ∷ [])
     ∷ command (2 ∷ 10 ∷ 1 ∷ []) shows (refused 4 ∷ version 2 ∷ unsound ∷ [])
     ∷ step 0 shows (code 4 ∷ actions 0 ∷ [])
-    ∷ numbers 1 2 shows (unsound ∷ [])
+    ∷ numbersFound 1 2 shows (unsound ∷ [])
     ∷ command (8 ∷ 10 ∷ []) shows (refused 4 ∷ [])
-    ∷ numbers 1 1 shows (pending 2 18 ∷ [])
-    ∷ found 7 shows (pending 2 18 ∷ [])
+    ∷ numbersFound 1 1 shows (pending 2 18 ∷ [])
+    ∷ versionFound 7 shows (pending 2 18 ∷ [])
     ∷ command (8 ∷ 10 ∷ []) shows (refused 4 ∷ pending 2 18 ∷ [])
-    ∷ found 2 shows []
+    ∷ versionFound 2 shows []
     ∷ command (6 ∷ 10 ∷ 4 ∷ 0 ∷ []) shows (refused 2 ∷ actions 18 ∷ window Closed 0 0 ∷ marks [] ∷ pending 0 0 ∷ [])
-    ∷ numbers 0 9 shows (unsound ∷ [])
+    ∷ numbersFound 0 9 shows (unsound ∷ [])
     ∷ suspend shows (code 1 ∷ unsound ∷ [])
     ∷ resumeChanged shows (code 1 ∷ marks [] ∷ pending 0 0 ∷ [])
-    ∷ command (2 ∷ 11 ∷ 1 ∷ []) shows (version 1 ∷ [])
-    ∷ command (6 ∷ 12 ∷ 1 ∷ 0 ∷ []) shows (window Write 1 2 ∷ [])
-    ∷ command (7 ∷ 13 ∷ 2 ∷ 0 ∷ 1 ∷ 0 ∷ []) shows (marks (0 ∷ 1 ∷ []) ∷ pending 1 17 ∷ [])
-    ∷ command (8 ∷ 14 ∷ 1 ∷ 0 ∷ 1 ∷ 0 ∷ []) shows (code 1 ∷ actions 34 ∷ marks [] ∷ pending 0 0 ∷ [])
+    ∷ command (6 ∷ 11 ∷ 1 ∷ 0 ∷ []) shows (window Write 1 2 ∷ [])
+    ∷ command (10 ∷ 12 ∷ 0 ∷ 0 ∷ 2 ∷ 0 ∷ []) shows (pending 2 2 ∷ [])
+    ∷ command (8 ∷ 13 ∷ []) shows (code 1 ∷ actions 2 ∷ window Write 1 2 ∷ pending 0 0 ∷ [])
+    ∷ command (10 ∷ 14 ∷ 1 ∷ 0 ∷ 1 ∷ 0 ∷ []) shows (pending 1 1 ∷ [])
+    ∷ command (5 ∷ 15 ∷ []) shows (code 1 ∷ actions 1 ∷ window Closed 0 0 ∷ pending 0 0 ∷ [])
+    ∷ command (2 ∷ 16 ∷ 1 ∷ []) shows (version 1 ∷ [])
+    ∷ command (6 ∷ 17 ∷ 1 ∷ 0 ∷ []) shows (window Write 1 2 ∷ [])
+    ∷ command (7 ∷ 18 ∷ 2 ∷ 0 ∷ 1 ∷ 0 ∷ []) shows (marks (0 ∷ 1 ∷ []) ∷ pending 1 17 ∷ [])
+    ∷ command (8 ∷ 19 ∷ 1 ∷ 0 ∷ 1 ∷ 0 ∷ []) shows (code 1 ∷ actions 34 ∷ marks [] ∷ pending 0 0 ∷ [])
     ∷ []
 
 -- the twelve, and those

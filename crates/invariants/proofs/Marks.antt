@@ -10,24 +10,28 @@ use lib.Dec.{leb, ltb, eqb}
 use lib.ListN.{length, getD, replicate, length-replicate, getD-replicate}
 use borrow.Author.Tests.{le-leb, lt-leb, lt-ltb, le-ltb, not-false}
 use Rattle.units.proofs.Cases.{below-or}
-use Rattle.units.specs.Units.{roundUp}
 use Rattle.buffers.specs.Ranges.{replace}
 use Rattle.buffers.proofs.Replace.{replace-before, replace-inside, replace-after}
 use Rattle.session.specs.declared.Session.{Session}
+use Rattle.session.specs.declared.Window.the-variants.{Read, Write}
+use Rattle.session.specs.Events.{controlLost, setBits, clearBits}
 use Rattle.session.specs.Machine.{Setup, Machine}
+use Rattle.session.specs.Marks.{dirty}
+use Rattle.session.specs.Record.{clean, withAccess, withMarks}
+use Rattle.session.proofs.Answers.{either-way}
 use Rattle.soundness.specs.Soundness.{soundIn}
 use Rattle.refusals.specs.declared.BlockRange.{BlockRange}
 use Rattle.refusals.specs.declared.Needs.the-variants.{WriteWindow}
 use Rattle.refusals.specs.declared.Reason.the-variants.{Accepted}
-use Rattle.refusals.specs.Refusals.{blocksNamed, reasonFor}
+use Rattle.refusals.specs.Refusals.{blocksNamed, flushMarks, reasonFor}
 use Rattle.refusals.proofs.Accepting.{passed, named-within}
 use Rattle.registers.specs.Registers.{commandOf, number}
-use Rattle.mailbox.specs.Commands.{Outcome, numberedIn}
+use Rattle.mailbox.specs.Commands.{Outcome, numbered, numberedIn, marked}
 use Rattle.mailbox.specs.Table.{Command, from}
 use Rattle.mailbox.specs.Mediator.{commandAt, reasonOf, reasonIn, mediate}
 use Rattle.mailbox.proofs.Mediating.{carried, each-command, each-answer, call-fits}
 use Rattle.invariants.specs.Pending.{drops}
-use Rattle.invariants.specs.Marks.{isNamed, MarksAsSaid, SameMarks, MarksStay}
+use Rattle.invariants.specs.Marks.{isNamed, MarksAsSaid, SameWindow, SameMarks, MarksStay, AccessStays, NoWindow, WindowAsSaid}
 use Rattle.invariants.proofs.Kept.{sounds-unless}
 
 -- ---- the marks, block by block
@@ -98,41 +102,74 @@ marks-as-said setup registers m long a block = (
       (fits setup registers m long a (from 2 (m .session .version)) (ap (λ (n : ℕ). reasonOf (commandAt n) (soundIn setup m) registers m) (sym c) ∙ a)),
 )
 
--- ---- commands that leave them
-same : (s t : Session) → t .window ≡ s .window → t .first ≡ s .first → t .size ≡ s .size → t .marks ≡ s .marks → t .counts ≡ s .counts → SameMarks s t
-same s t w f z k c = record { window = w; first = f; size = z; marks = k; counts = c }
+-- ---- calls that leave them
+stays : (s t : Session) → t .window ≡ s .window → t .first ≡ s .first → t .size ≡ s .size → t .marks ≡ s .marks → t .counts ≡ s .counts
+    → SameWindow s t × SameMarks s t
+stays s t w f z k c = (record { window = w; first = f; size = z }, record { marks = k; counts = c })
 
 module _ (setup : Setup) (registers : List ℕ) (m : Machine) where
   abbrev touches : ℕ → Bool
   touches n = drops n || (eqb n 7 || eqb n 10)
 
   abbrev Stay : Outcome → Type 0
-  Stay o = SameMarks (m .session) (o .machine .session)
+  Stay o = SameWindow (m .session) (o .machine .session) × SameMarks (m .session) (o .machine .session)
 
   served : (n : ℕ) → touches n ≡ false → Stay (commandAt n .leaves setup registers (numberedIn registers m))
   served =
       each-command (λ (n : ℕ) (c : Command). touches n ≡ false → Stay (c .leaves setup registers (numberedIn registers m)))
       (λ q. absurd (true≢false q))
-      (λ _. same (m .session) _ refl refl refl refl refl)
-      (λ _. same (m .session) _ refl refl refl refl refl)
+      (λ _. stays (m .session) _ refl refl refl refl refl)
+      (λ _. stays (m .session) _ refl refl refl refl refl)
       (λ q. absurd (true≢false q))
       (λ q. absurd (true≢false q))
       (λ q. absurd (true≢false q))
       (λ q. absurd (true≢false q))
       (λ q. absurd (true≢false q))
-      (λ _. same (m .session) _ refl refl refl refl refl)
+      (λ _. stays (m .session) _ refl refl refl refl refl)
       (λ q. absurd (true≢false q))
-      (λ _ _. same (m .session) _ refl refl refl refl refl)
+      (λ _ _. stays (m .session) _ refl refl refl refl refl)
 
   broken : (code n : ℕ) → touches n ≡ false → Stay (commandAt n .whenBroken code registers (numberedIn registers m))
   broken code =
-      let kept = same (m .session) (numberedIn registers m .session) refl refl refl refl refl in
+      let kept = stays (m .session) (numberedIn registers m .session) refl refl refl refl refl in
       each-command (λ (n : ℕ) (c : Command). touches n ≡ false → Stay (c .whenBroken code registers (numberedIn registers m)))
       (λ _. kept) (λ _. kept) (λ _. kept) (λ q. absurd (true≢false q)) (λ _. kept) (λ q. absurd (true≢false q)) (λ _. kept) (λ _. kept)
       (λ _. kept) (λ _. kept) (λ _ _. kept)
 
 pub marks-stay : MarksStay
-marks-stay setup registers m stays =
-    each-answer (Stay setup registers m) setup registers m (λ _. served setup registers m (commandOf registers) stays)
-    (λ code. broken setup registers m code (commandOf registers) stays)
-    (λ _. same (m .session) _ refl refl refl refl refl) (λ _. same (m .session) _ refl refl refl refl refl)
+marks-stay setup registers m none =
+    each-answer (Stay setup registers m) setup registers m (λ _. served setup registers m (commandOf registers) none)
+    (λ code. broken setup registers m code (commandOf registers) none)
+    (λ _. stays (m .session) _ refl refl refl refl refl) (λ _. stays (m .session) _ refl refl refl refl refl)
+
+pub access-stays : AccessStays
+access-stays s =
+    let Stays : Session → Type 0 = λ t. SameWindow s t × SameMarks s t in (
+      either-way Stays (not (s .suspended)) s (withAccess true (setBits controlLost (s .events)) s) (stays s s refl refl refl refl refl) (stays s _ refl refl refl refl refl),
+      either-way Stays (s .suspended) s (withAccess false (clearBits controlLost (s .events)) s) (stays s s refl refl refl refl refl) (stays s _ refl refl refl refl refl),
+    )
+
+-- ---- the window
+flushing-window : (s : Session) (registers : List ℕ) (adds : Bool)
+    → SameWindow s (withMarks clean (cond adds (marked dirty (numbered s registers) registers) (numbered s registers)))
+flushing-window s registers true = record { window = refl; first = refl; size = refl }
+flushing-window s registers false = record { window = refl; first = refl; size = refl }
+
+module _ (setup : Setup) (registers : List ℕ) (m : Machine) (a : reasonIn setup registers m ≡ Accepted) where
+  -- what holds of the session that the row of a code leaves
+  by-row : (P : Session → Type 0) (n : ℕ) → commandOf registers ≡ n → P (commandAt n .leaves setup registers (numberedIn registers m) .machine .session)
+      → P (mediate setup registers m .machine .session)
+  by-row P n c p = subst (λ (o : Outcome). P (o .machine .session)) (sym (carried setup registers m n c a)) p
+
+pub window-as-said : WindowAsSaid
+unfolding commandAt
+window-as-said setup registers m a = (
+  ⊎-elim (λ c. by-row setup registers m a (SameWindow (m .session)) 7 c (record { window = refl; first = refl; size = refl }))
+      (⊎-elim
+      (λ c. by-row setup registers m a (SameWindow (m .session)) 8 c (flushing-window (m .session) registers (flushMarks (m .session) registers)))
+      (λ c. by-row setup registers m a (SameWindow (m .session)) 10 c (record { window = refl; first = refl; size = refl }))),
+  ⊎-elim (λ c. by-row setup registers m a NoWindow 1 c (record { window = refl; first = refl; size = refl }))
+      (λ c. by-row setup registers m a NoWindow 5 c (record { window = refl; first = refl; size = refl })),
+  λ c. by-row setup registers m a (λ (t : Session). (t .window ≡ Read) × (t .first ≡ number 2 0 registers)) 4 c (refl, refl),
+  λ c. by-row setup registers m a (λ (t : Session). (t .window ≡ Write) × (t .first ≡ number 2 0 registers)) 6 c (refl, refl),
+)

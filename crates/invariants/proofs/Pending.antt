@@ -1,13 +1,13 @@
 -- The kept numbers and the question: the claims stand in specs/Pending.antt.
 use mathlib.Core.Path.{_≡_, refl, sym, ap, _∙_, subst}
-use mathlib.Core.Bool.{Bool, true, false, cond, not, _&&_, _||_, false≢true}
+use mathlib.Core.Bool.{Bool, true, false, cond, not, _&&_, _||_, false≢true, and-false}
 use mathlib.Core.List.{List, [], _∷_}
-use mathlib.Core.Logic.{⊎-elim}
+use mathlib.Core.Logic.{_⊎_, ⊎-elim}
 use Prim.Native.Nat.{ℕ, zero, suc, _+_, _*_, _≤_}
 use native.Mathlib.Omega.{arith}
-use lib.Dec.{leb, eqb}
+use lib.Dec.{leb, ltb, eqb}
 use lib.ListN.{length}
-use borrow.Author.Tests.{leb-true, not-true}
+use borrow.Author.Tests.{leb-true}
 use Rattle.units.proofs.Cases.{decided, both}
 use Rattle.session.specs.declared.Counts.{Counts}
 use Rattle.session.specs.declared.Session.{Session}
@@ -18,7 +18,6 @@ use Rattle.session.specs.Suspension.{answer}
 use Rattle.session.specs.Marks.{dirty, ofKind, marksOf, countsOf, sameCounts}
 use Rattle.soundness.specs.Soundness.{markable, marksSound, sound, soundAt, soundIn}
 use Rattle.soundness.specs.declared.pending_work.PendingWork.the-variants.{Marked}
-use Rattle.soundness.specs.Pending.{pendingIn}
 use Rattle.soundness.proofs.Counting.{counts-same, same-counts}
 use Rattle.soundness.proofs.Facts.{counts-right, measured}
 use Rattle.flush.specs.Actions.{flushActions}
@@ -29,14 +28,14 @@ use Rattle.refusals.specs.declared.Reason.the-variants.{Accepted, System}
 use Rattle.refusals.specs.declared.Needs.the-variants.{Access}
 use Rattle.refusals.specs.Refusals.{flushMarks, reasonFor}
 use Rattle.refusals.proofs.Accepting.{passed}
-use Rattle.registers.specs.Registers.{commandOf}
+use Rattle.registers.specs.Registers.{commandOf, number}
 use Rattle.mailbox.specs.Commands.{Outcome, numbered, numberedIn, marked, flushing}
 use Rattle.mailbox.specs.Table.{Command}
 use Rattle.mailbox.specs.Mediator.{commandAt, reasonOf, reasonIn, mediate}
 use Rattle.mailbox.specs.Runs.{calledAll}
 use Rattle.mailbox.proofs.Mediating.{carried, each-command}
 use Rattle.invariants.specs.Codes.{isCreate}
-use Rattle.invariants.specs.Pending.{howMany, Counted, MiscountedRefused, RunCounted, Unmarked, drops, DroppedUnmarked, PendingExact, markedBlocks, PendingTells, Tells, PendingCarried}
+use Rattle.invariants.specs.Pending.{howMany, CountsAsSaid, Counted, MiscountedRefused, RunCounted, Unmarked, drops, DroppedUnmarked, PendingExact, markedBlocks, PendingTells, Tells, PendingCarried}
 use Rattle.invariants.proofs.Kept.{sounds-unless, flush-sound}
 use Rattle.invariants.proofs.Refused.{refusals-as-said}
 use Rattle.invariants.proofs.Runs.{run-keeps}
@@ -49,6 +48,9 @@ how-many kind (mark ∷ marks) = ap (λ (n : ℕ). ofKind kind mark + n) (how-ma
     one : (t : Bool) (n : ℕ) → cond t 1 0 + n ≡ cond t (suc n) n
     one true n = omega arith
     one false n = omega arith
+
+pub counts-as-said : CountsAsSaid
+counts-as-said marks = (how-many 1 marks, how-many 2 marks)
 
 counted : (s : Session) → s .counts ≡ countsOf (s .marks) → Counted s
 counted s e = record { dirty = (λ i. e i .dirty) ∙ how-many 1 (s .marks); erased = (λ i. e i .erased) ∙ how-many 2 (s .marks) }
@@ -203,6 +205,15 @@ module _ (setup : Setup) (registers : List ℕ) (m : Machine) where
       rw (flush-sound setup registers m fine .1 c a)
       (ap (λ (marks : List ℕ). length (flushActions marks)) (added (flushMarks (m .session) registers) ∙ same))
 
+  -- which adds none at version 2, nor with a length of 0
+  adds-none : (m .session .version ≡ 2) ⊎ (number 4 2 registers ≡ 0) → flushing (m .session) registers .marks ≡ m .session .marks
+  adds-none =
+      ⊎-elim
+      (λ v. ap (λ (version : ℕ). cond (ltb version 2 && not (eqb (number 4 2 registers) 0)) (marked dirty (m .session) registers) (m .session) .marks) v)
+      (λ l.
+      ap (λ (long : ℕ). cond (ltb (m .session .version) 2 && not (eqb long 0)) (marked dirty (m .session) registers) (m .session) .marks) l
+      ∙ ap (λ (t : Bool). cond t (marked dirty (m .session) registers) (m .session) .marks) (and-false (ltb (m .session .version) 2)))
+
   told : (reasonIn setup registers m ≡ System → ⊥) → mediate setup registers m .actions ≡ length (windowActions (m .session)) → Tells setup registers m
   told fine e = pending-tells setup m (sounds-unless setup registers m fine) ∙ ap (Marked (markedBlocks (m .session .marks))) (sym e)
 
@@ -215,6 +226,10 @@ pending-carried setup registers m = (
   λ a c same.
       let fine = other setup registers m (λ q. let z : _≡_ {A = ℕ} 0 1 = cc in omega arith) a in
       told setup registers m fine (ap (λ (o : Outcome). o .actions) (carried setup registers m 8 c a) ∙ flushed setup registers m fine c a same),
+  λ a c none.
+      let fine = other setup registers m (λ q. let z : _≡_ {A = ℕ} 0 1 = cc in omega arith) a in
+      told setup registers m fine
+      (ap (λ (o : Outcome). o .actions) (carried setup registers m 8 c a) ∙ flushed setup registers m fine c a (adds-none setup registers m none)),
   λ a f.
       let fine = other setup registers m (λ q. let z : _≡_ {A = ℕ} 0 1 = cc in omega arith) a in
       told setup registers m fine

@@ -1,13 +1,17 @@
--- What every command makes of the window and of the marks, with the papers' own numbers: document 01, "Commands". Proved in proofs/Marks.antt.
+-- What every command, suspend and resume make of the window and of the marks, with the papers' own numbers: document 01, "Commands". How marks are dropped is
+-- said in Pending.antt, with their numbers. Proved in proofs/Marks.antt.
 use mathlib.Core.Path.{_≡_}
 use mathlib.Core.Bool.{Bool, false, cond, _&&_, _||_}
 use mathlib.Core.List.{List}
+use mathlib.Core.Logic.{_⊎_}
 use Prim.Native.Nat.{ℕ, _+_, _-_}
 use lib.Dec.{leb, ltb, eqb}
 use lib.ListN.{length, getD}
 use Rattle.units.specs.Units.{roundUp}
 use Rattle.session.specs.declared.Session.{Session}
+use Rattle.session.specs.declared.Window.the-variants.{Closed, Read, Write}
 use Rattle.session.specs.Machine.{Setup, Machine}
+use Rattle.session.specs.Suspension.{suspended, resumed}
 use Rattle.refusals.specs.declared.Reason.the-variants.{Accepted}
 use Rattle.registers.specs.Registers.{commandOf, number}
 use Rattle.mailbox.specs.Mediator.{reasonIn, mediate}
@@ -31,17 +35,44 @@ MarksAsSaid =
     × (commandOf registers ≡ 10
     → getD (mediate setup registers m .machine .session .marks) block 0 ≡ cond (isNamed (m .session) registers block) 2 (getD (m .session .marks) block 0))
 
--- a session with the window, the marks and the kept numbers of another
-pub record SameMarks (s t : Session) : Type 0 where
+-- a session with the window of another, and with its marks and their kept numbers
+pub record SameWindow (s t : Session) : Type 0 where
   pub window : t .window ≡ s .window
   pub first : t .first ≡ s .first
   pub size : t .size ≡ s .size
+
+pub record SameMarks (s t : Session) : Type 0 where
   pub marks : t .marks ≡ s .marks
   pub counts : t .counts ≡ s .counts
 
--- commands that neither drop marks nor set any: GET_INFO, "Window and marks stay", GET_FLASH_INFO, ACK and every unknown code, refused or not, of any session.
--- What a refusal of another leaves is said by `RefusalsAsSaid`
+-- commands that neither drop marks nor set any leave both: GET_INFO, "Window and marks stay", GET_FLASH_INFO, ACK and every unknown code, refused or not, on any
+-- session. What a refusal of another leaves is said by `RefusalsAsSaid`
 abbrev pub MarksStay : Type 0
 MarksStay =
     (setup : Setup) (registers : List ℕ) (m : Machine) → (drops (commandOf registers) || (eqb (commandOf registers) 7 || eqb (commandOf registers) 10)) ≡ false
-    → SameMarks (m .session) (mediate setup registers m .machine .session)
+    → SameWindow (m .session) (mediate setup registers m .machine .session) × SameMarks (m .session) (mediate setup registers m .machine .session)
+
+-- and so do suspend and resume without changed flash, on any session
+abbrev pub AccessStays : Type 0
+AccessStays =
+    (s : Session)
+    → (SameWindow s (suspended s .session) × SameMarks s (suspended s .session)) × (SameWindow s (resumed s .session) × SameMarks s (resumed s .session))
+
+-- no window: "without a window its first block and size are 0"
+pub record NoWindow (s : Session) : Type 0 where
+  pub window : s .window ≡ Closed
+  pub first : s .first ≡ 0
+  pub size : s .size ≡ 0
+
+-- the window after a command that no check refuses: MARK_DIRTY (7), ERASE (10) and FLUSH (8), "the window stays", keep it; RESET (1) and CLOSE_WINDOW (5) drop
+-- it; a create has opened one for reading (4) or writing (6) at flash block o (0-1)
+abbrev pub WindowAsSaid : Type 0
+WindowAsSaid =
+    (setup : Setup) (registers : List ℕ) (m : Machine) → reasonIn setup registers m ≡ Accepted
+    → ((commandOf registers ≡ 7) ⊎ ((commandOf registers ≡ 8) ⊎ (commandOf registers ≡ 10))
+    → SameWindow (m .session) (mediate setup registers m .machine .session))
+    × ((commandOf registers ≡ 1) ⊎ (commandOf registers ≡ 5) → NoWindow (mediate setup registers m .machine .session))
+    × (commandOf registers ≡ 4
+    → (mediate setup registers m .machine .session .window ≡ Read) × (mediate setup registers m .machine .session .first ≡ number 2 0 registers))
+    × (commandOf registers ≡ 6
+    → (mediate setup registers m .machine .session .window ≡ Write) × (mediate setup registers m .machine .session .first ≡ number 2 0 registers))

@@ -3,11 +3,13 @@
 use mathlib.Core.Path.{_≡_}
 use mathlib.Core.Bool.{Bool, true, false, cond, _||_}
 use mathlib.Core.List.{List, [], _∷_}
+use mathlib.Core.Logic.{_⊎_}
 use Prim.Native.Nat.{ℕ, suc, _+_, _*_}
 use lib.Dec.{eqb}
 use lib.ListN.{length, replicate}
 use Rattle.session.specs.declared.Session.{Session}
 use Rattle.session.specs.Machine.{Setup, Machine}
+use Rattle.session.specs.Marks.{countsOf}
 use Rattle.session.specs.Record.{fresh}
 use Rattle.session.specs.Suspension.{resumedChanged}
 use Rattle.soundness.specs.Soundness.{soundIn}
@@ -15,7 +17,7 @@ use Rattle.soundness.specs.declared.pending_work.PendingWork.the-variants.{Unso
 use Rattle.soundness.specs.Pending.{pendingIn}
 use Rattle.flush.specs.Window.{windowActions, advanced}
 use Rattle.refusals.specs.declared.Reason.the-variants.{Accepted, System, Argument}
-use Rattle.registers.specs.Registers.{commandOf}
+use Rattle.registers.specs.Registers.{commandOf, number}
 use Rattle.mailbox.specs.Commands.{flushing}
 use Rattle.mailbox.specs.Mediator.{reasonIn, mediate}
 use Rattle.mailbox.specs.Runs.{Call, calledAll}
@@ -27,6 +29,10 @@ use Rattle.invariants.specs.Codes.{isCreate}
 abbrev pub howMany : ℕ → List ℕ → ℕ
 howMany kind [] = 0
 howMany kind (mark ∷ marks) = cond (eqb mark kind) (suc (howMany kind marks)) (howMany kind marks)
+
+-- the numbers of any marks are that
+abbrev pub CountsAsSaid : Type 0
+CountsAsSaid = (marks : List ℕ) → (countsOf marks .dirty ≡ howMany 1 marks) × (countsOf marks .erased ≡ howMany 2 marks)
 
 -- they "equal a full count of the marks": of those that are 1, and of those that are 2
 pub record Counted (s : Session) : Type 0 where
@@ -87,11 +93,12 @@ PendingTells =
 abbrev pub Tells : Setup → List ℕ → Machine → Type 0
 Tells setup registers m = pendingIn (m .session) ≡ Marked (markedBlocks (m .session .marks)) (mediate setup registers m .actions)
 
--- to a FLUSH (8) "that adds no mark": of version 2, with L = 0, and where L names only blocks that are dirty already; to a CLOSE_WINDOW (5) and a create, which
--- close the window; and to a create that is refused for its argument
+-- to a FLUSH (8) "that adds no mark", among them every one of version 2 and with L = 0 (2-5), and where L names only blocks that are dirty already; to a
+-- CLOSE_WINDOW (5) and a create, which close the window; and to a create that is refused for its argument
 abbrev pub PendingCarried : Type 0
 PendingCarried =
     (setup : Setup) (registers : List ℕ) (m : Machine)
     → (reasonIn setup registers m ≡ Accepted → commandOf registers ≡ 8 → flushing (m .session) registers .marks ≡ m .session .marks → Tells setup registers m)
+    × (reasonIn setup registers m ≡ Accepted → commandOf registers ≡ 8 → (m .session .version ≡ 2) ⊎ (number 4 2 registers ≡ 0) → Tells setup registers m)
     × (reasonIn setup registers m ≡ Accepted → (isCreate (commandOf registers) || eqb (commandOf registers) 5) ≡ true → Tells setup registers m)
     × (reasonIn setup registers m ≡ Argument → isCreate (commandOf registers) ≡ true → Tells setup registers m)

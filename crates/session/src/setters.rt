@@ -70,7 +70,6 @@ pub fn with_window(session: Session, window: Window, first: u16, size: u16) -> S
     ensures { λ r. ⌜ r ≡ withWindow window first size session ⌝ }
 {
     let previous = session.previous;
-    let counts = ZERO_COUNTS;
     Session {
         version: session.version,
         previous,
@@ -79,7 +78,7 @@ pub fn with_window(session: Session, window: Window, first: u16, size: u16) -> S
         window,
         first,
         size,
-        counts,
+        counts: ZERO_COUNTS,
         marks: [CLEAN; 64],
     }
 }

@@ -56,8 +56,10 @@ fn registers(code: u8, sequence: u8, arguments: &[u8]) -> [u8; 16] {
 
 /// Each call by itself on a copy of the pair.
 fn every_call(pair: &Pair) -> Result<(), String> {
-    let commands: [(u8, &[u8]); 10] =
-        [(1, &[]), (2, &[1]), (2, &[2]), (3, &[]), (4, &[2, 0, 1]), (5, &[]), (6, &[0]), (7, &[1, 0, 1]), (8, &[]), (9, &[0x41])];
+    let commands: [(u8, &[u8]); 12] = [
+        (1, &[]), (2, &[1]), (2, &[2]), (3, &[]), (4, &[2, 0, 1]), (5, &[]), (6, &[0]), (7, &[1, 0, 1]), (8, &[]), (8, &[1, 0, 1]), (9, &[0x41]),
+        (10, &[1, 0, 1]),
+    ];
     for (code, arguments) in commands {
         pair.clone().command(registers(code, 5, arguments))?;
     }
@@ -317,9 +319,9 @@ fn pending() -> Result<(), String> {
     for marks in marks {
         for numbers in 0..=u16::MAX {
             let [dirty, erased] = numbers.to_le_bytes();
-            let sound = Record { marks, dirty, erased, ..record(2, 2) };
-            let wrong = Record { version: 255, numbered: 2, events: 0x40, suspended: 3, window: 9, first: 65535, size: 0, ..sound };
-            for record in [sound, wrong] {
+            let right = Record { marks, dirty, erased, ..record(2, 2) };
+            let wrong = Record { version: 255, numbered: 2, events: 0x40, suspended: 3, window: 9, first: 65535, size: 0, ..right };
+            for record in [right, wrong] {
                 let (ours, theirs) = (compare::pending(&record), twin::pending(&record));
                 if ours != theirs {
                     return Err(format!("{record:?}: pending {ours:?}, the second implementation {theirs:?}"));

@@ -243,41 +243,47 @@ fn ranges(version: u8) -> Vec<Vec<u16>> {
     all
 }
 
-/// Records and sizes that break the numbers: the code of GET_INFO and of a step, and whether all stayed.
+/// Sessions that break the rules on version, window, marks, event byte and B, or keep them at their edge.
+const SOUNDNESS: [(&str, fn(&mut Machine)); 21] = [
+    ("nothing", |_| {}),
+    ("version 3", |m| m.session.version = 3),
+    ("version 255", |m| m.session.version = 255),
+    ("no window with a first block", |m| { m.session.kind = Kind::Closed; m.session.size = 0 }),
+    ("no window with a size", |m| { m.session.kind = Kind::Closed; m.session.first = 0 }),
+    ("a window of size 0", |m| m.session.size = 0),
+    ("a window larger than the memory", |m| m.session.size = 3),
+    ("a window that ends at the end", |m| m.session.first = 2),
+    ("a window that ends past the end", |m| m.session.first = 3),
+    ("a window at the last number", |m| m.session.first = 65535),
+    ("mark 3", |m| m.mark(0, &[3])),
+    ("mark 255 past the window", |m| m.mark(63, &[255])),
+    ("a mark past the window", |m| m.mark(2, &[1])),
+    ("a mark in a read window", |m| { m.session.kind = Kind::Read; m.mark(0, &[2]) }),
+    ("B + C = 65,536", |m| m.lpc = 65534),
+    ("B + C = 65,537", |m| m.lpc = 65535),
+    ("suspended", suspend),
+    ("suspended and 0x40 clear", |m| m.session.suspended = true),
+    ("0x40 set and not suspended", |m| m.session.events |= 0x40),
+    ("suspended and every event bit set", |m| { m.session.suspended = true; m.session.events = 0xff }),
+    ("no event bit set", |m| m.session.events = 0),
+];
+
+/// Kept numbers that are right, and that are not.
+const COUNTS: [(&str, fn(&mut Machine)); 9] = [
+    ("a dirty and an erased block", |m| m.mark(0, &[1, 2])),
+    ("one dirty block too many", |m| { m.mark(0, &[1, 2]); m.session.dirty = 2 }),
+    ("one dirty block too few", |m| { m.mark(0, &[1, 2]); m.session.dirty = 0 }),
+    ("one erased block too many", |m| { m.mark(0, &[1, 2]); m.session.erased = 2 }),
+    ("one erased block too few", |m| { m.mark(0, &[1, 2]); m.session.erased = 0 }),
+    ("the two numbers exchanged", |m| { m.mark(0, &[1, 1]); (m.session.dirty, m.session.erased) = (0, 2) }),
+    ("255 dirty blocks", |m| m.session.dirty = 255),
+    ("a mark that is not counted", |m| m.session.marks[0] = 1),
+    ("a mark past the window that is not counted", |m| m.session.marks[63] = 2),
+];
+
+/// Records and sizes that break the numbers: the code of GET_INFO and of a step, whether all stayed, and how much was pending.
 fn unsound(side: Side) {
-    let changes: [(&str, fn(&mut Machine)); 30] = [
-        ("nothing", |_| {}),
-        ("version 3", |m| m.session.version = 3),
-        ("version 255", |m| m.session.version = 255),
-        ("no window with a first block", |m| { m.session.kind = Kind::Closed; m.session.size = 0 }),
-        ("no window with a size", |m| { m.session.kind = Kind::Closed; m.session.first = 0 }),
-        ("a window of size 0", |m| m.session.size = 0),
-        ("a window larger than the memory", |m| m.session.size = 3),
-        ("a window that ends at the end", |m| m.session.first = 2),
-        ("a window that ends past the end", |m| m.session.first = 3),
-        ("a window at the last number", |m| m.session.first = 65535),
-        ("mark 3", |m| m.mark(0, &[3])),
-        ("mark 255 past the window", |m| m.mark(63, &[255])),
-        ("a mark past the window", |m| m.mark(2, &[1])),
-        ("a mark in a read window", |m| { m.session.kind = Kind::Read; m.mark(0, &[2]) }),
-        ("a dirty and an erased block", |m| m.mark(0, &[1, 2])),
-        ("one dirty block too many", |m| { m.mark(0, &[1, 2]); m.session.dirty = 2 }),
-        ("one dirty block too few", |m| { m.mark(0, &[1, 2]); m.session.dirty = 0 }),
-        ("one erased block too many", |m| { m.mark(0, &[1, 2]); m.session.erased = 2 }),
-        ("one erased block too few", |m| { m.mark(0, &[1, 2]); m.session.erased = 0 }),
-        ("the two numbers exchanged", |m| { m.mark(0, &[1, 1]); (m.session.dirty, m.session.erased) = (0, 2) }),
-        ("255 dirty blocks", |m| m.session.dirty = 255),
-        ("a mark that is not counted", |m| m.session.marks[0] = 1),
-        ("a mark past the window that is not counted", |m| m.session.marks[63] = 2),
-        ("B + C = 65,536", |m| m.lpc = 65534),
-        ("B + C = 65,537", |m| m.lpc = 65535),
-        ("suspended", suspend),
-        ("suspended and 0x40 clear", |m| m.session.suspended = true),
-        ("0x40 set and not suspended", |m| m.session.events |= 0x40),
-        ("suspended and every event bit set", |m| { m.session.suspended = true; m.session.events = 0xff }),
-        ("no event bit set", |m| m.session.events = 0),
-    ];
-    for (name, change) in changes {
+    for (name, change) in SOUNDNESS.into_iter().chain(COUNTS) {
         let mut m = with_window(side, 2, Kind::Write);
         change(&mut m);
         print_soundness(name, m);
@@ -425,12 +431,13 @@ fn pending(side: Side) {
         m.mark(0, &[1, 2]);
         change(&mut m);
         let first = m.pending();
-        m.step(0);
+        let (code, acted) = m.step(0);
         let stepped = m.pending();
-        m.access(Access::Suspend);
+        let suspends = m.access(Access::Suspend);
         let suspended = m.pending();
-        m.access(Access::ResumeChanged);
-        println!("  {name}: pending {first}, {stepped}, {suspended}, {}; {}", m.pending(), session_text(&m.session));
+        let resumes = m.access(Access::ResumeChanged);
+        let after = format!("{}; {}", m.pending(), session_text(&m.session));
+        println!("  {name}: pending {first}; step {code} {acted}, {stepped}; suspend {suspends}, {suspended}; resume {resumes}, {after}");
     }
 }
 

@@ -61,15 +61,24 @@ fn spoil(r: &mut Random, record: &mut Record) {
         0 => record.version = r.next() as u8,
         1 => record.first = r.next() as u16,
         2 => record.size = r.next() as u16,
-        3 => record.marks[r.below(64) as usize] = r.next() as u8,
+        3 => {
+            record.marks[r.below(64) as usize] = r.next() as u8;
+            recount(r, record);
+        }
         4 => record.window = 0,
         5 => record.window = r.next() as u8,
         6 => record.events ^= CONTROL_LOST,
         7 => record.dirty = near(r, record.dirty),
         8 => record.erased = near(r, record.erased),
-        _ => record.marks = [1; 64],
+        _ => {
+            record.marks = [1; 64];
+            recount(r, record);
+        }
     }
-    // so that nothing but the spoilt field is wrong
+}
+
+/// Half of the time the numbers fit the spoilt marks, so that nothing but these is wrong.
+fn recount(r: &mut Random, record: &mut Record) {
     if r.once_in(2) {
         *record = record.counted();
     }
