@@ -5,12 +5,15 @@ use session::ERASED;
 use session::ZERO_COUNTS;
 use session::of_kind;
 ghost use mathlib.Core.Path.{_≡_};
-ghost use mathlib.Core.Bool.{cond};
+ghost use mathlib.Core.Bool.{cond, _&&_};
 ghost use mathlib.Core.List.{List, _∷_};
-ghost use Prim.Native.Nat.{ℕ, _<_};
-ghost use lib.Dec.{leb};
+ghost use Prim.Native.Nat.{ℕ, _<_, max};
+ghost use lib.Dec.{leb, eqb};
 ghost use Rattle.session.specs.Marks.{countsOf};
 ghost use Rattle.soundness.specs.Soundness.{marksSound};
+
+// The largest mark that there is.
+const LAST_MARK: u8 = 2;
 
 // What the look tells: whether the marks are those of a window of which so many blocks may be marked, and their numbers.
 pub struct Look {
@@ -19,25 +22,50 @@ pub struct Look {
 }
 
 // All marks are looked at, whatever the first ones are: a loop without a way out, with a count as narrow as
-// a mark beside the place, compiles to a few vector instructions.
+// a mark beside the place, compiles to a few vector instructions. So it keeps the largest mark and where the
+// last marked block ends, and compares them when it is over.
 pub(crate) fn look_at(marks: [u8; 64], markable: u16) -> Look
     ensures { λ r. ⌜ (r .within ≡ marksSound markable marks) × (r .counts ≡ countsOf marks) ⌝ }
 {
-    let limit = narrow(markable);
-    let mut within = true;
+    let mut largest: u8 = 0;
+    let mut end: u8 = 0;
     let mut counts = ZERO_COUNTS;
     let mut n: u8 = 0;
     let mut i = 0;
     while i < 64 {
-        let most = if n < limit { 2 } else { 0 };
-        if most < marks[i] {
-            within = false;
-        }
-        counts = count(counts, marks[i]);
         n += 1;
+        largest = larger(largest, marks[i]);
+        end = larger(end, end_if_marked(marks[i], n));
+        counts = count(counts, marks[i]);
         i += 1;
     }
-    Look { within, counts }
+    Look {
+        within: is_within(largest, end, markable),
+        counts,
+    }
+}
+
+// The largest mark is one, and the last marked block may be marked.
+fn is_within(largest: u8, end: u8, markable: u16) -> bool
+    ensures { λ r. ⌜ r ≡ (leb largest 2 && leb end markable) ⌝ }
+{
+    if LAST_MARK < largest {
+        return false;
+    }
+    (end as u16) <= markable
+}
+
+fn larger(a: u8, b: u8) -> u8
+    ensures { λ r. ⌜ r ≡ max a b ⌝ }
+{
+    if a < b { b } else { a }
+}
+
+// Where a block ends, if it is marked.
+fn end_if_marked(mark: u8, end: u8) -> u8
+    ensures { λ r. ⌜ r ≡ cond (eqb mark 0) 0 end ⌝ }
+{
+    if mark == 0 { 0 } else { end }
 }
 
 // The numbers of some marks, with one mark more.
@@ -49,14 +77,4 @@ fn count(counts: Counts, mark: u8) -> Counts
         dirty: counts.dirty + of_kind(mark, DIRTY),
         erased: counts.erased + of_kind(mark, ERASED),
     }
-}
-
-// A limit of 64 or more is met by no mark.
-fn narrow(markable: u16) -> u8
-    ensures { λ r. ⌜ r ≡ cond (leb 64 markable) 64 markable ⌝ }
-{
-    if markable < 64 {
-        return markable as u8;
-    }
-    64
 }

@@ -1,0 +1,13 @@
+-- `soundness::marks::larger` meets its contract.
+use native.Mathlib.Omega.{arith}
+use Rattle.soundness.proofs.marks.larger.Statement.{statement}
+use Rattle.soundness.proofs.marks.larger.Tie as tie
+
+returns : tie.Need-returns
+returns c = omega arith
+
+returns-2 : tie.Need-returns-2
+returns-2 c = omega arith
+
+pub larger-spec : {M : Type 1} → statement M
+larger-spec = tie.close (tie.spec returns returns-2)
