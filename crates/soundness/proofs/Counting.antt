@@ -1,5 +1,5 @@
 -- Laws of the numbers of marks.
-use mathlib.Core.Path.{_≡_, refl, sym, ap, _∙_, subst}
+use mathlib.Core.Path.{_≡_, refl, ap, _∙_}
 use mathlib.Core.Bool.{Bool, true, false, cond}
 use mathlib.Core.List.{List, [], _∷_}
 use Prim.Native.Nat.{ℕ, zero, suc, _+_, _≤_, _<_}
@@ -33,9 +33,6 @@ kind-most kind mark = most (eqb mark kind)
     most : (t : Bool) → cond t 1 0 ≤ 1
     most true = omega arith
     most false = omega arith
-
-pub kind-small : {n kind mark : ℕ} → n ≡ ofKind kind mark → n ≤ 1
-kind-small {n} {kind} {mark} e = subst (λ (k : ℕ). k ≤ 1) (sym e) (kind-most kind mark)
 
 pub marks-most : (kind : ℕ) (ms : List ℕ) → marksOf kind ms ≤ length ms
 marks-most kind [] = omega arith

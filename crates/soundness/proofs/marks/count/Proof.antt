@@ -4,7 +4,7 @@ use Prim.Native.Nat.{ℕ, _+_}
 use native.Mathlib.Omega.{arith}
 use borrow.Author.Needs.{needs}
 use Rattle.session.specs.Marks.{marksOf}
-use Rattle.soundness.proofs.Counting.{kind-small}
+use Rattle.soundness.proofs.Counting.{kind-most}
 use Rattle.soundness.proofs.marks.count.Statement.{statement}
 use Rattle.soundness.proofs.marks.count.Tie as tie
 
@@ -12,13 +12,17 @@ of-kind-requires : tie.Need-of-kind-requires
 of-kind-requires c κs = search needs
 
 add-t4 : tie.Need-add-t4
-add-t4 c = let few = kind-small (c .before .of-kind .ensures) in omega (arith, few)
+add-t4 c =
+    let mark = c .before .before .args .mark in
+    omega (arith, kind-most 1 mark, kind-most 2 mark, c .before .of-kind .ensures)
 
 of-kind-requires-2 : tie.Need-of-kind-requires-2
 of-kind-requires-2 c κs = search needs
 
 add-t6 : tie.Need-add-t6
-add-t6 c = let few = kind-small (c .before .of-kind2 .ensures) in omega (arith, few)
+add-t6 c =
+    let mark = c .before .before .before .before .args .mark in
+    omega (arith, kind-most 1 mark, kind-most 2 mark, c .before .of-kind2 .ensures)
 
 returns : tie.Need-returns
 returns c = λ marks e.
