@@ -7,15 +7,15 @@ use Prim.Native.Nat.{ℕ}
 use lib.ListN.{length}
 use Rattle.units.proofs.Cases.{decided}
 use Rattle.session.specs.Machine.{Setup, lent}
-use Rattle.session.specs.Marks.{countsOf, sameCounts}
+use Rattle.session.specs.Marks.{countsOf}
 use Rattle.soundness.specs.Soundness.{sound, soundAt, soundIn}
-use Rattle.soundness.proofs.Counting.{counts-same, same-counts}
-use Rattle.soundness.proofs.Facts.{counts-right}
+use Rattle.soundness.proofs.Facts.{miscounted}
+use Rattle.soundness.proofs.Answered.{pending-right, pending-wrong}
 use Rattle.flush.specs.Window.{advanced}
 use Rattle.mailbox.proofs.Mediating.{unsound-as}
 use Rattle.board.specs.declared.Record.{Record}
 use Rattle.board.specs.Record.{isRegular, sessionOf}
-use Rattle.board.specs.Calls.{kept, left, commanded, systemError, Counted, RecordPending, RecordMiscounted, RecordDropped}
+use Rattle.board.specs.Calls.{kept, left, workOf, commanded, systemError, Counted, RecordPending, RecordMiscounted, RecordDropped}
 use Rattle.board.proofs.Answers.{nothing-lost}
 
 module _ (h : Record) where
@@ -27,20 +27,13 @@ module _ (h : Record) where
 
 pub record-pending : RecordPending
 record-pending h = (
-  λ c. rw (same-counts (sessionOf h .counts) (countsOf (h .marks)) (counts h c)),
-  λ n. ⊎-elim
-      (λ (e : sameCounts (sessionOf h .counts) (countsOf (h .marks)) ≡ true). absurd (n (counted h (counts-same (sessionOf h .counts) (countsOf (h .marks)) e))))
-      (λ (e : sameCounts (sessionOf h .counts) (countsOf (h .marks)) ≡ false). rw e)
-      (decided (sameCounts (sessionOf h .counts) (countsOf (h .marks)))),
+  λ c. ap workOf (pending-right (sessionOf h) (counts h c)),
+  λ n. ap workOf (pending-wrong (sessionOf h) (λ e. n (counted h e))),
 )
 
 module _ (h : Record) (apart : Counted h → ⊥) (flash memory : List ℕ) where
   unsound : sound (length flash) (length memory) (sessionOf h) ≡ false
-  unsound =
-      ⊎-elim
-      (λ (e : sound (length flash) (length memory) (sessionOf h) ≡ true). absurd (apart (counted h (counts-right (length flash) (length memory) (sessionOf h) e))))
-      (λ (e : sound (length flash) (length memory) (sessionOf h) ≡ false). e)
-      (decided (sound (length flash) (length memory) (sessionOf h)))
+  unsound = miscounted (length flash) (length memory) (sessionOf h) (λ e. apart (counted h e))
 
   unsound-at : (setup : Setup) → soundIn setup (lent (sessionOf h) flash memory) ≡ false
   unfolding soundAt

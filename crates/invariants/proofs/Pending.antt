@@ -8,18 +8,18 @@ use native.Mathlib.Omega.{arith}
 use lib.Dec.{leb, ltb, eqb}
 use lib.ListN.{length}
 use borrow.Author.Tests.{leb-true}
-use Rattle.units.proofs.Cases.{decided, both}
+use Rattle.units.proofs.Cases.{both}
 use Rattle.session.specs.declared.Counts.{Counts}
 use Rattle.session.specs.declared.Session.{Session}
 use Rattle.session.specs.Machine.{Setup, Machine, holding}
 use Rattle.session.specs.Events.{controlLost, windowReset, setBits, clearBits}
 use Rattle.session.specs.Record.{clean, fresh, withAccess, dropWindow}
 use Rattle.session.specs.Suspension.{answer}
-use Rattle.session.specs.Marks.{dirty, ofKind, marksOf, countsOf, sameCounts}
+use Rattle.session.specs.Marks.{dirty, ofKind, marksOf, countsOf}
 use Rattle.soundness.specs.Soundness.{markable, marksSound, sound, soundAt, soundIn}
 use Rattle.soundness.specs.declared.pending_work.PendingWork.the-variants.{Marked}
-use Rattle.soundness.proofs.Counting.{counts-same, same-counts}
-use Rattle.soundness.proofs.Facts.{counts-right, measured}
+use Rattle.soundness.proofs.Facts.{miscounted, measured}
+use Rattle.soundness.proofs.Answered.{pending-right, pending-wrong}
 use Rattle.flush.specs.Actions.{flushActions}
 use Rattle.flush.specs.Window.{windowActions, advanced, flushWhole}
 use Rattle.flush.proofs.Lists.{flush-count}
@@ -62,17 +62,10 @@ counts s c =
     let erased = c .erased ∙ sym (how-many 2 (s .marks)) in
     λ i. record { dirty = dirty i; erased = erased i }
 
-miscounted : (flash memory : ℕ) (s : Session) → (Counted s → ⊥) → sound flash memory s ≡ false
-miscounted flash memory s apart =
-    ⊎-elim
-    (λ (e : sound flash memory s ≡ true). absurd (apart (counted s (counts-right flash memory s e))))
-    (λ (e : sound flash memory s ≡ false). e)
-    (decided (sound flash memory s))
-
 pub miscounted-refused : MiscountedRefused
 unfolding soundAt reasonFor advanced
 miscounted-refused setup registers m apart =
-    let e = miscounted (length (m .flash)) (length (m .memory)) (m .session) apart in
+    let e = miscounted (length (m .flash)) (length (m .memory)) (m .session) (λ e. apart (counted (m .session) e)) in
     (rw e, λ done. rw e)
 
 right : (setup : Setup) (m : Machine) → soundIn setup m ≡ true → m .session .counts ≡ countsOf (m .session .marks)
@@ -123,13 +116,7 @@ dropped-unmarked = (
 
 -- ---- the question
 pub pending-exact : PendingExact
-pending-exact s = (
-  λ c. rw (same-counts (s .counts) (countsOf (s .marks)) (counts s c)),
-  λ n. ⊎-elim
-      (λ (e : sameCounts (s .counts) (countsOf (s .marks)) ≡ true). absurd (n (counted s (counts-same (s .counts) (countsOf (s .marks)) e))))
-      (λ (e : sameCounts (s .counts) (countsOf (s .marks)) ≡ false). rw e)
-      (decided (sameCounts (s .counts) (countsOf (s .marks)))),
-)
+pending-exact s = (λ c. pending-right s (counts s c), λ n. pending-wrong s (λ e. n (counted s e)))
 
 -- a sound mark counts once where it isn't 0
 kinds : (mark : ℕ) → mark ≤ 2 → ofKind 1 mark + ofKind 2 mark ≡ cond (eqb mark 0) 0 1
@@ -161,7 +148,7 @@ pending-tells setup m e =
     let blocks = ap (λ (c : Counts). c .dirty + c .erased) n
     ∙ marked-all (markable (s .window) (s .size)) (s .marks) (measured setup (length (m .flash)) (length (m .memory)) s e .fits .marks) in
     let actions = ap (λ (c : Counts). 17 * c .dirty + c .erased) n ∙ sym (flush-count (s .marks)) in
-    rw (same-counts (s .counts) (countsOf (s .marks)) n) (λ i. Marked (blocks i) (actions i))
+    pending-right s n ∙ (λ i. Marked (blocks i) (actions i))
 
 -- ---- the answer that carries it
 module _ (setup : Setup) (registers : List ℕ) (m : Machine) where

@@ -1,11 +1,12 @@
 -- What a sound size and a sound session tell.
 use mathlib.Core.Path.{_≡_}
-use mathlib.Core.Bool.{true, _&&_}
+use mathlib.Core.Bool.{true, false, _&&_}
+use mathlib.Core.Logic.{⊎-elim}
 use lib.Dec.{leb}
 use Prim.Native.Nat.{ℕ, _+_, _≤_, _<_}
 use native.Mathlib.Omega.{arith}
 use borrow.Author.Tests.{leb-true, eqb-true, le-leb}
-use Rattle.units.proofs.Cases.{both}
+use Rattle.units.proofs.Cases.{decided, both}
 use Rattle.units.specs.Units.{toBytes, roundUp, toBlocks}
 use Rattle.session.specs.declared.Session.{Session}
 use Rattle.session.specs.declared.Window.{Window}
@@ -87,6 +88,12 @@ fitting S C s e =
 -- the kept numbers are those of the marks
 pub counts-right : (flash memory : ℕ) (s : Session) → sound flash memory s ≡ true → s .counts ≡ countsOf (s .marks)
 counts-right flash memory s e = fitting (roundUp flash) (roundUp memory) s (sizes flash memory s e .2) .counts
+
+-- where they are not, it is not sound
+pub miscounted : (flash memory : ℕ) (s : Session) → (s .counts ≡ countsOf (s .marks) → ⊥) → sound flash memory s ≡ false
+miscounted flash memory s apart =
+    ⊎-elim (λ (e : sound flash memory s ≡ true). absurd (apart (counts-right flash memory s e))) (λ (e : sound flash memory s ≡ false). e)
+    (decided (sound flash memory s))
 
 -- and the other way: a session that fits the sizes of a sound one is sound
 pub refitted : (flash memory : ℕ) (s t : Session) → sound flash memory s ≡ true → t .version ≤ 2

@@ -1,4 +1,5 @@
 pub mod Access
+pub mod Answered
 pub mod Counting
 pub mod Facts
 pub mod SoundMarks

@@ -22,7 +22,7 @@ clean-sound (suc n) (suc k) = clean-sound n k
 
 -- ---- one mark more
 -- what is asked of the mark at place i
-abbrev pub fineAt : ℕ → ℕ → ℕ → Bool
+abbrev fineAt : ℕ → ℕ → ℕ → Bool
 fineAt n i mark = cond (ltb i n) (leb mark 2) (leb mark 0)
 
 and-assoc : (a b c : Bool) → (a && (b && c)) ≡ ((a && b) && c)

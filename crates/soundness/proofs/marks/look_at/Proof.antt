@@ -1,6 +1,6 @@
 -- `soundness::marks::look_at` meets its contract: of the marks before place i the largest, the end of the last marked block, and the numbers are known.
 use mathlib.Core.Path.{_≡_, refl, sym, ap, _∙_}
-use mathlib.Core.Bool.{Bool, cond, _&&_}
+use mathlib.Core.Bool.{cond, _&&_}
 use Prim.Native.Nat.{ℕ, _≤_, _+_, _-_, max}
 use native.Mathlib.Omega.{arith}
 use borrow.Author.Needs.{needs}
