@@ -55,6 +55,9 @@ counts-as-said marks = (how-many 1 marks, how-many 2 marks)
 counted : (s : Session) → s .counts ≡ countsOf (s .marks) → Counted s
 counted s e = record { dirty = (λ i. e i .dirty) ∙ how-many 1 (s .marks); erased = (λ i. e i .erased) ∙ how-many 2 (s .marks) }
 
+not-counted : (s : Session) → (Counted s → ⊥) → s .counts ≡ countsOf (s .marks) → ⊥
+not-counted s n e = n (counted s e)
+
 -- and the other way
 counts : (s : Session) → Counted s → s .counts ≡ countsOf (s .marks)
 counts s c =
@@ -65,7 +68,7 @@ counts s c =
 pub miscounted-refused : MiscountedRefused
 unfolding soundAt reasonFor advanced
 miscounted-refused setup registers m apart =
-    let e = miscounted (length (m .flash)) (length (m .memory)) (m .session) (λ e. apart (counted (m .session) e)) in
+    let e = miscounted (length (m .flash)) (length (m .memory)) (m .session) (not-counted (m .session) apart) in
     (rw e, λ done. rw e)
 
 right : (setup : Setup) (m : Machine) → soundIn setup m ≡ true → m .session .counts ≡ countsOf (m .session .marks)
@@ -116,7 +119,7 @@ dropped-unmarked = (
 
 -- ---- the question
 pub pending-exact : PendingExact
-pending-exact s = (λ c. pending-right s (counts s c), λ n. pending-wrong s (λ e. n (counted s e)))
+pending-exact s = (λ c. pending-right s (counts s c), λ n. pending-wrong s (not-counted s n))
 
 -- a sound mark counts once where it isn't 0
 kinds : (mark : ℕ) → mark ≤ 2 → ofKind 1 mark + ofKind 2 mark ≡ cond (eqb mark 0) 0 1
