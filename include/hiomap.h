@@ -2,20 +2,21 @@
  * The hiomap mediator for C: what crates/board exports. Build the archive with `rt staticlib board`
  * and link target/staticlib/libboard.a (x86-64 Linux).
  *
- * Ownership. The caller owns everything: the record of the session, the registers, the flash image and
- * the window memory. A call borrows what it is given and keeps nothing of it when it returns; there is
+ * Ownership. The caller owns everything: the record of the session, the registers, the flash image, the
+ * window memory and a list of marks. A call borrows what it is given and keeps nothing of it when it returns; there is
  * no hidden state and no allocation, so several records may be in use side by side. Functions that take
  * a record by value leave the caller's alone; a suspend or resume gives the new one back.
  *
  * What the caller must see to, since nothing here can check it:
  *   - pointers are not null, aligned for their type, and lead to initialised memory of the stated size,
  *     also where a length is 0;
- *   - no two of the things that one call borrows overlap (record, registers, flash, window memory), and
+ *   - no two of the things that one call borrows overlap (record, registers, flash, window memory, list), and
  *     nobody else writes to them during the call: an interrupt or another thread must wait. The window
  *     memory is written by the host between the calls, and not during one.
- * Every value is taken: any content of the record and the registers and any buffer length gets the
- * answer that the rules give it, for a command and a step SYSTEM_ERROR (4) where the record or the sizes are not
- * sound, and for a command where lpc and the blocks of the window memory together are above 65,536.
+ * Every value is taken: any content of the record, the registers and a list and any length gets the
+ * answer that the rules give it: for a command, a list of marks and a step SYSTEM_ERROR (4) where the record or the
+ * sizes are not sound, and for a command and a list also where lpc and the blocks of the window memory together are
+ * above 65,536.
  */
 #ifndef HIOMAP_H
 #define HIOMAP_H
@@ -32,6 +33,9 @@ extern "C" {
 #endif
 
 #define HIOMAP_BLOCK_BYTES 4096
+
+/* The most pairs of a list of marks. */
+#define HIOMAP_MOST_PAIRS 64
 
 /* The registers. Arguments are little-endian from register 2 on: docs/PROTOCOL.md has each command's. */
 #define HIOMAP_REGISTERS 16
@@ -115,6 +119,12 @@ typedef struct hiomap_const_bytes {
     size_t length;
 } hiomap_const_bytes;
 
+/* 16-bit numbers that a call only reads: where they are and how many numbers, not bytes. */
+typedef struct hiomap_const_numbers {
+    const uint16_t *start;
+    size_t length;
+} hiomap_const_numbers;
+
 /* The answer yes or no of a suspend or resume, and the record afterwards. */
 typedef struct hiomap_suspended {
     bool done;
@@ -129,6 +139,17 @@ typedef struct hiomap_stepped {
     uint8_t code;
     bool acted;
 } hiomap_stepped;
+
+/*
+ * What a list of marks answers: 1 SUCCESS, 4 SYSTEM_ERROR, 6 BUSY, 7 WINDOW_ERROR or 2 PARAM_ERROR. `named` is true
+ * where it is refused for a pair, with code 2, and `place` is then that pair's place, from 0; else `place` is 0 and
+ * means nothing. Code 2 that names no pair is a version other than 2, an odd length or more than 64 pairs.
+ */
+typedef struct hiomap_list_reply {
+    uint8_t code;
+    bool named;
+    uint8_t place;
+} hiomap_list_reply;
 
 /*
  * How much is pending: the marked window blocks, and the chip actions that their flush takes. `unsound` where `dirty`
@@ -151,11 +172,14 @@ HIOMAP_ASSERT(offsetof(hiomap_record, dirty) == 10 && offsetof(hiomap_record, er
 HIOMAP_ASSERT(offsetof(hiomap_record, marks) == 12 && sizeof(hiomap_record) == 76, "hiomap_record");
 HIOMAP_ASSERT(offsetof(hiomap_suspended, record) == 2 && sizeof(hiomap_suspended) == 78, "hiomap_suspended");
 HIOMAP_ASSERT(offsetof(hiomap_stepped, acted) == 1 && sizeof(hiomap_stepped) == 2, "hiomap_stepped");
+HIOMAP_ASSERT(offsetof(hiomap_list_reply, named) == 1, "hiomap_list_reply");
+HIOMAP_ASSERT(offsetof(hiomap_list_reply, place) == 2 && sizeof(hiomap_list_reply) == 3, "hiomap_list_reply");
 HIOMAP_ASSERT(offsetof(hiomap_pending_work, blocks) == 4, "hiomap_pending_work");
 HIOMAP_ASSERT(offsetof(hiomap_pending_work, actions) == 8, "hiomap_pending_work");
 HIOMAP_ASSERT(sizeof(hiomap_pending_work) == 12, "hiomap_pending_work");
 HIOMAP_ASSERT(offsetof(hiomap_bytes, length) == sizeof(uint8_t *), "hiomap_bytes");
 HIOMAP_ASSERT(offsetof(hiomap_const_bytes, length) == sizeof(uint8_t *), "hiomap_const_bytes");
+HIOMAP_ASSERT(offsetof(hiomap_const_numbers, length) == sizeof(uint16_t *), "hiomap_const_numbers");
 
 /*
  * A fresh session: version 0, event byte 0x81, no window. Make one when the board starts and at each reset of
@@ -176,6 +200,25 @@ hiomap_record hiomap_fresh(void);
  */
 uint32_t hiomap_command(hiomap_record *record, uint8_t (*registers)[HIOMAP_REGISTERS], uint16_t lpc, uint16_t timeout,
                         hiomap_bytes flash, hiomap_bytes memory);
+
+/*
+ * Marks all pairs of a list dirty, or none of them: what a MARK_DIRTY of version 2 for each pair does, sent in order,
+ * where all of these succeed. It is the board's own call: no sequence number is used or remembered, no register is read
+ * or written, and neither buffer is touched.
+ *   record     the session; its marks and their numbers are changed in place. A refusal changes no byte of it
+ *   list       pairs of a window block and a number of blocks, at most 64 of them: `length` is twice their number.
+ *              A pair's blocks all lie in the window, in whole-number sums; 0 blocks are checked and mark nothing;
+ *              pairs may overlap. No pairs are a list too: a length of 0, and `start` is not null
+ *   lpc        the window's first LPC block (B), and
+ *   timeout    the suggested timeout (T), as hiomap_command has them
+ *   flash      the length of the whole flash image, in bytes
+ *   memory     the length of the whole window memory, in bytes
+ * The first of these that holds refuses it: the record, the sizes or lpc are not sound, 4; the version is not 2, 2;
+ * access is suspended, 6; there is no write window, 7; the length is odd or above 128, 2; a pair does not lie in the
+ * window, 2, and the first such pair is named.
+ */
+hiomap_list_reply hiomap_mark_list(hiomap_record *record, hiomap_const_numbers list, uint16_t lpc, uint16_t timeout,
+                                    size_t flash, size_t memory);
 
 /*
  * Flash access is suspended; resumed with the flash as it was; resumed with the flash changed, which drops

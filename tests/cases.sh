@@ -6,7 +6,7 @@ set -euo pipefail
 cd "$(dirname "$0")/.."
 bash tests/staticlib.sh
 cargo build --release --offline --quiet --manifest-path tests/compare/Cargo.toml --target-dir target/cargo
-for section in refusals edges flags unsound suspensions events cuts pending full largest; do
+for section in refusals edges flags unsound suspensions events cuts pending lists full largest; do
     stored=tests/cases/$section.txt
     if [ "${1:-}" = second ]; then
         bash tests/limit.sh 60 target/cargo/release/cases second $section > "$stored"

@@ -10,7 +10,8 @@ ROOT = pathlib.Path(__file__).resolve().parent.parent
 TYPES = {
     "u8": "uint8_t", "u16": "uint16_t", "u32": "uint32_t", "u64": "uint64_t", "bool": "bool", "[u8; 64]": "uint8_t[64]",
     "Record": "hiomap_record", "Suspended": "hiomap_suspended", "Stepped": "hiomap_stepped", "Work": "hiomap_pending_work", "&mut Record": "hiomap_record *",
-    "&mut [u8; 16]": "uint8_t (*)[16]", "&mut [u8]": "hiomap_bytes", "&[u8]": "hiomap_const_bytes",
+    "&mut [u8; 16]": "uint8_t (*)[16]", "&mut [u8]": "hiomap_bytes", "&[u8]": "hiomap_const_bytes", "&[u16]": "hiomap_const_numbers",
+    "usize": "size_t", "ListReply": "hiomap_list_reply",
 }
 # what the header calls a lent or stored record
 NAMES = {"held": "record"}
@@ -54,10 +55,11 @@ def of_header():
 structs, calls = of_source()
 header_structs, header_calls = of_header()
 # a lent part of Rattle's is a struct of the header's own
-slices = {"hiomap_bytes": [("start", "uint8_t *"), ("length", "size_t")], "hiomap_const_bytes": [("start", "const uint8_t *"), ("length", "size_t")]}
+parts = {"hiomap_bytes": "uint8_t *", "hiomap_const_bytes": "const uint8_t *", "hiomap_const_numbers": "const uint16_t *"}
+slices = {name: [("start", start), ("length", "size_t")] for name, start in parts.items()}
 wanted, has = {**structs, **slices, **calls}, {**header_structs, **header_calls}
 faults = [name for name in sorted(wanted.keys() | has.keys()) if wanted.get(name) != has.get(name)]
 for name in faults:
     print(f"header: {name} is {has.get(name)}\n    and in crates/board {wanted.get(name)}")
 print(f"header: {len(structs)} structs and {len(calls)} functions of crates/board read, {len(faults)} faults")
-sys.exit(1 if faults or len(structs) != 4 or len(calls) != 7 else 0)
+sys.exit(1 if faults or len(structs) != 5 or len(calls) != 8 else 0)

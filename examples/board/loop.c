@@ -86,6 +86,22 @@ static void print_pending(void) {
         printf("pending %u blocks, %u actions\n", (unsigned)work.blocks, (unsigned)work.actions);
 }
 
+/* A host that has saved many places at once hands over all of its marks: pairs of window block and number of blocks. */
+static void mark_list(const uint16_t *pairs, size_t numbers) {
+    hiomap_list_reply answer = hiomap_mark_list(&session, (hiomap_const_numbers){pairs, numbers}, LPC_BLOCK, TIMEOUT,
+                                                 sizeof flash, sizeof memory);
+    printf("list of %zu numbers: %u", numbers, answer.code);
+    if (answer.named)
+        printf(", pair %u", answer.place);
+    printf("\n");
+}
+
+#define MARK_LIST(...)                                    \
+    do {                                                  \
+        const uint16_t pairs[] = {__VA_ARGS__};           \
+        mark_list(pairs, sizeof pairs / sizeof pairs[0]); \
+    } while (0)
+
 /* How many bytes of each block are not FF. */
 static void print_flash(void) {
     printf("flash");
@@ -143,14 +159,25 @@ int main(void) {
     COMMAND(5, 12, 0x02);             /* the flags are looked at without a window too */
     COMMAND(6, 13, 1, 0, 0, 0);       /* the same window again */
 
+    MARK_LIST(0, 1, 1, 2, 0, 3);      /* the second pair ends past the window, and so does the third: none is marked */
+    print_pending();
+    MARK_LIST(0, 1, 1);               /* an odd length: PARAM_ERROR, and no pair is named */
+    MARK_LIST(0, 1, 1, 1, 0, 2, 2, 0); /* both blocks, each twice; 2, 0 lies at the window's end and marks nothing */
+    print_pending();
+    COMMAND(10, 13, 0, 0, 1, 0);      /* SEQ_ERROR: 13 is still the previous number, for the list has none */
+    COMMAND(8, 30);                   /* FLUSH of both */
+
     change_access("suspend", hiomap_suspend);
+    MARK_LIST(0, 1);                  /* BUSY */
     change_access("resume changed", hiomap_resume_changed);
-    COMMAND(8, 14);                   /* WINDOW_ERROR: the window was dropped */
+    MARK_LIST(0, 1);                  /* WINDOW_ERROR: the window was dropped */
+    COMMAND(8, 14);                   /* and for a FLUSH too */
     COMMAND(9, 15, 2);                /* ACK, window reset */
 
     session.window = 7;               /* a damaged record: SYSTEM_ERROR, and it stays as it is */
     hiomap_record before = session;
     COMMAND(2, 16, 2);
+    MARK_LIST(0, 1);
     printf("kept %s\n", yes(memcmp(&before, &session, sizeof session) == 0));
     hiomap_stepped broken = step(0);
     printf("step %u %s\n", broken.code, yes(broken.acted));

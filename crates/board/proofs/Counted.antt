@@ -12,10 +12,11 @@ use Rattle.soundness.specs.Soundness.{sound, soundAt, soundIn}
 use Rattle.soundness.proofs.Facts.{miscounted}
 use Rattle.soundness.proofs.Answered.{pending-right, pending-wrong}
 use Rattle.flush.specs.Window.{advanced}
+use Rattle.marklist.proofs.Taken.{listed-unsound}
 use Rattle.mailbox.proofs.Mediating.{unsound-as}
 use Rattle.board.specs.declared.Record.{Record}
 use Rattle.board.specs.Record.{isRegular, sessionOf}
-use Rattle.board.specs.Calls.{kept, left, workOf, commanded, systemError, Counted, RecordPending, RecordMiscounted, RecordDropped}
+use Rattle.board.specs.Calls.{kept, left, keptList, listedRecord, workOf, commanded, systemError, Counted, RecordPending, RecordMiscounted, RecordDropped}
 use Rattle.board.proofs.Answers.{nothing-lost}
 
 module _ (h : Record) where
@@ -50,6 +51,18 @@ module _ (h : Record) (apart : Counted h → ⊥) (flash memory : List ℕ) wher
       (λ (e : isRegular h ≡ false). rw e)
       (decided (isRegular h))
 
+  list-of : (setup : Setup) (list : List ℕ)
+      → listedRecord setup (length flash) (length memory) list h ≡ record { held = h; answer = record { code = 4; named = false; place = 0 } }
+  unfolding listedRecord
+  list-of setup list =
+      ⊎-elim
+      (λ (e : isRegular h ≡ true).
+      rw e
+      (ap (keptList (h .previous)) (listed-unsound setup (length flash) (length memory) list (sessionOf h) (unsound-at setup))
+      ∙ ap (λ (r : Record). record { held = r; answer = record { code = 4; named = false; place = 0 } }) (nothing-lost .1 h e)))
+      (λ (e : isRegular h ≡ false). rw e)
+      (decided (isRegular h))
+
   step : (done : ℕ) → cond (isRegular h) (advanced (lent (sessionOf h) flash memory) done) (record { code = 4; yes = false; flash = flash })
       ≡ record { code = 4; yes = false; flash = flash }
   unfolding advanced
@@ -57,7 +70,7 @@ module _ (h : Record) (apart : Counted h → ⊥) (flash memory : List ℕ) wher
       ⊎-elim (λ (e : isRegular h ≡ true). rw (e, unsound)) (λ (e : isRegular h ≡ false). rw e) (decided (isRegular h))
 
 pub record-miscounted : RecordMiscounted
-record-miscounted h apart flash memory = (command h apart flash memory, step h apart flash memory)
+record-miscounted h apart flash memory = (command h apart flash memory, list-of h apart flash memory, step h apart flash memory)
 
 pub record-dropped : RecordDropped
 record-dropped h e = rw e (refl, refl, refl)

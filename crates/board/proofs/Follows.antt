@@ -8,10 +8,11 @@ use Rattle.session.specs.Events.{controlLost, windowReset, setBits, clearBits}
 use Rattle.session.specs.Machine.{lent}
 use Rattle.session.specs.Record.{withAccess, dropWindow}
 use Rattle.session.specs.Suspension.{answer}
+use Rattle.marklist.specs.MarkList.{listed}
 use Rattle.mailbox.specs.Mediator.{mediate}
 use Rattle.board.specs.declared.Record.{Record}
 use Rattle.board.specs.Record.{windowOf, previousOf, numberOr, sessionOf}
-use Rattle.board.specs.Calls.{commanded, answerOf, Follows}
+use Rattle.board.specs.Calls.{commanded, listedRecord, answerOf, Follows}
 use Rattle.board.proofs.Answers.{yes-back, number-back, session-back}
 
 -- a suspend or resume, where the session afterwards has the record's own previous number and the window of the number that is stored
@@ -39,10 +40,11 @@ answered window h true t p w =
 answered window h false t p w = refl
 
 pub follows : Follows
-unfolding commanded
+unfolding commanded listedRecord
 follows h e =
     let s = sessionOf h in (
       λ setup registers flash memory. rw e (session-back (h .previous) (mediate setup registers (lent s flash memory) .machine .session)),
+      λ setup flash memory list. rw e (session-back (h .previous) (listed setup flash memory list s .session)),
       answered (h .window) h (not (s .suspended)) (withAccess true (setBits controlLost (s .events)) s) refl refl,
       answered (h .window) h (s .suspended) (withAccess false (clearBits controlLost (s .events)) s) refl refl,
       answered 0 h (s .suspended) (dropWindow (withAccess false (setBits windowReset (clearBits controlLost (s .events))) s)) refl refl,

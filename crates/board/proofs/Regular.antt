@@ -10,11 +10,12 @@ use Rattle.session.specs.declared.Window.the-variants.{Closed, Read, Write}
 use Rattle.session.specs.declared.suspension.Suspension.{Suspension}
 use Rattle.session.specs.Suspension.{suspended, resumed, resumedChanged}
 use Rattle.session.specs.Machine.{lent}
+use Rattle.marklist.specs.MarkList.{listed}
 use Rattle.mailbox.specs.Mediator.{mediate}
 use Rattle.board.specs.declared.Record.{Record}
 use Rattle.board.specs.declared.Suspended.{Suspended}
 use Rattle.board.specs.Record.{yesNo, windowNumber, isNumbered, isRegular, sessionOf, recordOf}
-use Rattle.board.specs.Calls.{commanded, answerOf, StaysRegular}
+use Rattle.board.specs.Calls.{commanded, listedRecord, answerOf, StaysRegular}
 
 yes-no : (b : Bool) → leb (yesNo b) 1 ≡ true
 yes-no true = refl
@@ -37,10 +38,11 @@ answered h e window w a =
     (λ _. e)
 
 pub stays-regular : StaysRegular
-unfolding commanded
+unfolding commanded listedRecord
 stays-regular h e =
     let known = both (leb (h .suspended) 1) (leb (h .window) 2) (both (leb (h .numbered) 1) (leb (h .suspended) 1 && leb (h .window) 2) e .1) .1 in (
       λ setup registers flash memory. rw e (of-session (h .previous) (mediate setup registers (lent (sessionOf h) flash memory) .machine .session)),
+      λ setup flash memory list. rw e (of-session (h .previous) (listed setup flash memory list (sessionOf h) .session)),
       answered h e (h .window) known (suspended (sessionOf h)),
       answered h e (h .window) known (resumed (sessionOf h)),
       answered h e 0 refl (resumedChanged (sessionOf h)),

@@ -4,7 +4,7 @@ use mathlib.Core.Path.{_≡_}
 use Prim.Native.Nat.{ℕ, _+_, _*_}
 use mathlib.Core.Bool.{true, false, cond}
 use mathlib.Core.List.{List, []}
-use lib.ListN.{replicate}
+use lib.ListN.{length, replicate}
 use Rattle.session.specs.Marks.{marksOf}
 use Rattle.session.specs.Machine.{Setup, setUp, lent}
 use Rattle.session.specs.declared.Session.{Session}
@@ -14,8 +14,14 @@ use Rattle.soundness.specs.declared.pending_work.PendingWork.{PendingWork}
 use Rattle.soundness.specs.declared.pending_work.PendingWork.the-variants.{Unsound, Marked}
 use Rattle.soundness.specs.Pending.{pendingIn}
 use Rattle.flush.specs.Window.{Advanced, advanced}
+use Rattle.marklist.specs.declared.ListAnswer.{ListAnswer}
+use Rattle.marklist.specs.declared.ListAnswer.the-variants.{Unsound as UnsoundList}
+use Rattle.marklist.specs.declared.Listed.{Listed}
+use Rattle.marklist.specs.MarkList.{listCode, namesPair, placeNamed, listed}
 use Rattle.mailbox.specs.Commands.{Outcome, answered}
 use Rattle.mailbox.specs.Mediator.{mediate}
+use Rattle.board.specs.declared.lists.ServedList.{ServedList}
+use Rattle.board.specs.declared.ListReply.{ListReply}
 use Rattle.board.specs.declared.Record.{Record}
 use Rattle.board.specs.declared.Stepped.{Stepped}
 use Rattle.board.specs.declared.Suspended.{Suspended}
@@ -82,6 +88,21 @@ steppedRecord h memory done flash =
     (advanced (lent (sessionOf h) flash memory) done)
     (record { code = 4; yes = false; flash = flash })
 
+-- the answer of a list of marks, as C has it: its code, and whether it names a pair, by its place
+abbrev pub listReplyOf : ListAnswer → ListReply
+listReplyOf answer = record { code = listCode answer; named = namesPair answer; place = placeNamed answer }
+
+-- what it leaves and answers, its session as a record
+abbrev pub keptList : ℕ → Listed → ServedList
+keptList spare l = record { held = recordOf spare (l .session); answer = listReplyOf (l .answer) }
+
+-- a list of marks in one call, of the lengths of both buffers in bytes: 4 where the record is not sound, which stays exactly as it is (02, Ticket 4)
+unfoldable pub listedRecord : Setup → ℕ → ℕ → List ℕ → Record → ServedList
+listedRecord setup flash memory list h =
+    cond (isRegular h)
+    (keptList (h .previous) (listed setup flash memory list (sessionOf h)))
+    (record { held = h; answer = listReplyOf UnsoundList })
+
 -- "unsound", and else the two numbers, as C has them: with "unsound" both are 0 (house)
 abbrev pub workOf : PendingWork → Work
 workOf Unsound = record { unsound = true; blocks = 0; actions = 0 }
@@ -103,6 +124,8 @@ Follows =
     (h : Record) (regular : isRegular h ≡ true)
     → ((setup : Setup) (registers flash memory : List ℕ)
     → sessionOf (commanded setup h registers flash memory .held) ≡ mediate setup registers (lent (sessionOf h) flash memory) .machine .session)
+    × ((setup : Setup) (flash memory : ℕ) (list : List ℕ)
+    → sessionOf (listedRecord setup flash memory list h .held) ≡ listed setup flash memory list (sessionOf h) .session)
     × (sessionOf (suspendedRecord h .held) ≡ suspended (sessionOf h) .session)
     × (sessionOf (resumedRecord h .held) ≡ resumed (sessionOf h) .session)
     × (sessionOf (changedRecord h .held) ≡ resumedChanged (sessionOf h) .session)
@@ -113,6 +136,7 @@ abbrev pub StaysRegular : Type 0
 StaysRegular =
     (h : Record) → isRegular h ≡ true
     → ((setup : Setup) (registers flash memory : List ℕ) → isRegular (commanded setup h registers flash memory .held) ≡ true)
+    × ((setup : Setup) (flash memory : ℕ) (list : List ℕ) → isRegular (listedRecord setup flash memory list h .held) ≡ true)
     × (isRegular (suspendedRecord h .held) ≡ true)
     × (isRegular (resumedRecord h .held) ≡ true)
     × (isRegular (changedRecord h .held) ≡ true)
@@ -131,11 +155,14 @@ RecordPending =
     → (Counted h → pendingRecord h ≡ record { unsound = false; blocks = h .dirty + h .erased; actions = 17 * h .dirty + h .erased })
     × ((Counted h → ⊥) → pendingRecord h ≡ record { unsound = true; blocks = 0; actions = 0 })
 
--- where they do not, a command is SYSTEM_ERROR, which leaves the record exactly as it is, and a step answers 4 and changes nothing
+-- where they do not, a command is SYSTEM_ERROR and a list of marks is answered with 4, which leave the record exactly as it is, and a step answers 4 and
+-- changes nothing
 abbrev pub RecordMiscounted : Type 0
 RecordMiscounted =
     (h : Record) → (Counted h → ⊥) → (flash memory : List ℕ)
     → ((setup : Setup) (registers : List ℕ) → commanded setup h registers flash memory ≡ systemError h registers flash memory)
+    × ((setup : Setup) (list : List ℕ)
+    → listedRecord setup (length flash) (length memory) list h ≡ record { held = h; answer = record { code = 4; named = false; place = 0 } })
     × ((done : ℕ) → steppedRecord h memory done flash ≡ record { code = 4; yes = false; flash = flash })
 
 -- a resume with changed flash drops the marks of any record that is suspended, and both numbers are 0
@@ -143,3 +170,16 @@ abbrev pub RecordDropped : Type 0
 RecordDropped =
     (h : Record) → isYes (h .suspended) ≡ true
     → (changedRecord h .held .dirty ≡ 0) × (changedRecord h .held .erased ≡ 0) × (changedRecord h .held .marks ≡ replicate 64 0)
+
+-- ---- Ticket 4 of C's record, whatever its numbers are, also those that stand for nothing. Proved in proofs/Listed.antt
+
+-- "No sequence numbers are used or remembered"; a list that does not succeed leaves every byte of the record as it is. Where a number of the record stands for
+-- nothing the answer is 4; where each stands for something, what its session answers
+abbrev pub RecordListed : Type 0
+RecordListed =
+    (setup : Setup) (flash memory : ℕ) (list : List ℕ) (h : Record)
+    → (listedRecord setup flash memory list h .held .numbered ≡ h .numbered)
+    × (listedRecord setup flash memory list h .held .previous ≡ h .previous)
+    × ((listedRecord setup flash memory list h .answer .code ≡ 1 → ⊥) → listedRecord setup flash memory list h .held ≡ h)
+    × (isRegular h ≡ false → listedRecord setup flash memory list h .answer ≡ record { code = 4; named = false; place = 0 })
+    × (isRegular h ≡ true → listedRecord setup flash memory list h .answer ≡ listReplyOf (listed setup flash memory list (sessionOf h) .answer))

@@ -4,6 +4,7 @@
 // lends must be valid and must not overlap: include/hiomap.h.
 mod access;
 mod convert;
+mod lists;
 mod pending;
 mod serving;
 
@@ -12,6 +13,7 @@ pub use access::hiomap_resume_changed;
 pub use access::hiomap_step;
 pub use access::hiomap_suspend;
 use convert::record_of;
+pub use lists::hiomap_mark_list;
 pub use pending::hiomap_pending;
 pub use serving::hiomap_command;
 use session::new_session;
@@ -51,6 +53,14 @@ pub struct Suspended {
 pub struct Stepped {
     pub code: u8,
     pub acted: bool,
+}
+
+// What a list of marks answers: its code, and whether it names a pair, by its place from 0.
+#[repr(C)]
+pub struct ListReply {
+    pub code: u8,
+    pub named: bool,
+    pub place: u8,
 }
 
 // How much is pending: whether a kept number disagrees with the marks, and else the number of marked blocks, and

@@ -20,12 +20,14 @@ use Rattle.soundness.specs.declared.pending_work.PendingWork.the-variants.{Unso
 use Rattle.soundness.specs.Pending.{pendingIn}
 use Rattle.flush.specs.Actions.{Action, program, perform}
 use Rattle.flush.specs.Window.{Advanced, advanced}
+use Rattle.marklist.specs.declared.Listed.{Listed}
+use Rattle.marklist.specs.MarkList.{listCode, namesPair, placeNamed, listedIn}
 use Rattle.mailbox.specs.Commands.{Outcome}
 use Rattle.mailbox.specs.Mediator.{mediate}
 
 -- ---- what an example is
 
--- what a call is given and leaves, with the answer of the last command, step, suspend or resume
+-- what a call is given and leaves, with the answer of the last command, list of marks, step, suspend or resume
 pub record State : Type 0 where
   pub machine : Machine
   pub code : ℕ
@@ -115,6 +117,25 @@ stepped a s =
 abbrev pub step : ℕ → Call
 step done s = stepped (advanced (s .machine) done) s
 
+-- the state that a list of marks leaves; the place of the pair that it names stands where a command's arguments do
+abbrev pub listedState : Listed → State → State
+listedState l s =
+    record {
+      machine = holding (l .session) (s .machine);
+      code = listCode (l .answer);
+      arguments = cond (namesPair (l .answer)) (placeNamed (l .answer) ∷ []) [];
+      actions = 0;
+    }
+
+-- a list of marks in one call (02, Ticket 4)
+abbrev pub markList : List ℕ → Call
+markList list s = listedState (listedIn setup list (s .machine)) s
+
+-- so many pairs, all alike
+abbrev pub pairs : ℕ → ℕ → ℕ → List ℕ
+pairs zero block count = []
+pairs (suc n) block count = block ∷ count ∷ pairs n block count
+
 -- the state after a call that answers nothing
 abbrev pub changed : Machine → State → State
 changed m s = record { machine = m; code = s .code; arguments = s .arguments; actions = s .actions }
@@ -166,7 +187,7 @@ same [] (y ∷ ys) = false
 same (x ∷ xs) [] = false
 same (x ∷ xs) (y ∷ ys) = eqb x y && same xs ys
 
--- the response of a command (register 13), the code of a step, or the yes or no of a suspend or resume
+-- the response of a command (register 13), the code of a list of marks or a step, or the yes or no of a suspend or resume
 abbrev pub code : ℕ → Check
 code n s = eqb (s .code) n
 
@@ -177,6 +198,13 @@ arguments expected s = same (s .arguments) (padded 11 expected)
 -- "A refusal has zero arguments"
 abbrev pub refused : ℕ → Check
 refused n s = code n s && arguments [] s
+
+-- the code of a list of marks that names no pair, and that of one that names this pair
+abbrev pub unnamed : ℕ → Check
+unnamed n s = code n s && same (s .arguments) []
+
+abbrev pub named : ℕ → Check
+named place s = code 2 s && same (s .arguments) (place ∷ [])
 
 -- the number of chip actions
 abbrev pub actions : ℕ → Check
@@ -524,11 +552,60 @@ example16 =
     ∷ command (8 ∷ 19 ∷ 1 ∷ 0 ∷ 1 ∷ 0 ∷ []) shows (code 1 ∷ actions 34 ∷ marks [] ∷ pending 0 0 ∷ [])
     ∷ []
 
+-- Ticket 4, a list of marks: "Refusals: SYSTEM_ERROR, version not 2, suspended, no write window, odd length or more than 64 pairs, first bad pair, in that
+-- order, with codes 4, 2, 6, 7, 2, 2"; "nothing is marked" then, and the first of two bad pairs is named, also after good ones. No pairs are refused for the
+-- session and else fine, and so are 64, pairs of count 0 up to the window's end, and pairs that overlap; erased blocks become dirty. The previous number stays
+abbrev pub example17 : Example
+example17 =
+    markList (0 ∷ 1 ∷ []) shows (unnamed 2 ∷ [])
+    ∷ markList [] shows (unnamed 2 ∷ [])
+    ∷ command (2 ∷ 1 ∷ 1 ∷ []) shows (version 1 ∷ [])
+    ∷ suspend shows []
+    ∷ markList (0 ∷ 1 ∷ []) shows (unnamed 2 ∷ [])
+    ∷ command (2 ∷ 2 ∷ 2 ∷ []) shows (version 2 ∷ [])
+    ∷ markList (0 ∷ []) shows (unnamed 6 ∷ [])
+    ∷ markList [] shows (unnamed 6 ∷ [])
+    ∷ resume shows []
+    ∷ markList (0 ∷ []) shows (unnamed 7 ∷ [])
+    ∷ markList (pairs 65 0 1) shows (unnamed 7 ∷ [])
+    ∷ command (4 ∷ 3 ∷ 1 ∷ 0 ∷ []) shows (window Read 1 2 ∷ [])
+    ∷ markList (0 ∷ 1 ∷ []) shows (unnamed 7 ∷ marks [] ∷ [])
+    ∷ markList [] shows (unnamed 7 ∷ [])
+    ∷ command (6 ∷ 4 ∷ 1 ∷ 0 ∷ []) shows (window Write 1 2 ∷ [])
+    ∷ markList [] shows (unnamed 1 ∷ marks [] ∷ [])
+    ∷ markList (0 ∷ 1 ∷ 9 ∷ []) shows (unnamed 2 ∷ marks [] ∷ [])
+    ∷ markList (pairs 64 0 1 ++ (0 ∷ [])) shows (unnamed 2 ∷ marks [] ∷ [])
+    ∷ markList (pairs 65 0 1) shows (unnamed 2 ∷ marks [] ∷ [])
+    ∷ markList (pairs 65 9 9) shows (unnamed 2 ∷ marks [] ∷ [])
+    ∷ markList (0 ∷ 1 ∷ 65535 ∷ 2 ∷ 3 ∷ 0 ∷ []) shows (named 1 ∷ marks [] ∷ pending 0 0 ∷ [])
+    ∷ markList (3 ∷ 0 ∷ 0 ∷ 2 ∷ []) shows (named 0 ∷ marks [] ∷ [])
+    ∷ markList (pairs 63 0 1 ++ (2 ∷ 1 ∷ [])) shows (named 63 ∷ marks [] ∷ [])
+    ∷ markList (2 ∷ 0 ∷ 1 ∷ 0 ∷ []) shows (unnamed 1 ∷ marks [] ∷ pending 0 0 ∷ [])
+    ∷ command (10 ∷ 5 ∷ 0 ∷ 0 ∷ 2 ∷ 0 ∷ []) shows (marks (2 ∷ 2 ∷ []) ∷ pending 2 2 ∷ [])
+    ∷ markList (1 ∷ 1 ∷ 1 ∷ 1 ∷ []) shows (unnamed 1 ∷ marks (2 ∷ 1 ∷ []) ∷ pending 2 18 ∷ [])
+    ∷ suspend shows []
+    ∷ markList (0 ∷ 1 ∷ []) shows (unnamed 6 ∷ marks (2 ∷ 1 ∷ []) ∷ [])
+    ∷ resume shows []
+    ∷ command (2 ∷ 6 ∷ 1 ∷ []) shows (version 1 ∷ [])
+    ∷ markList (0 ∷ 1 ∷ []) shows (unnamed 2 ∷ marks (2 ∷ 1 ∷ []) ∷ [])
+    ∷ command (2 ∷ 7 ∷ 2 ∷ []) shows (version 2 ∷ [])
+    ∷ markList (pairs 64 0 2) shows (unnamed 1 ∷ marks (1 ∷ 1 ∷ []) ∷ pending 2 34 ∷ window Write 1 2 ∷ events 0x81 ∷ [])
+    ∷ command (8 ∷ 7 ∷ []) shows (refused 8 ∷ [])
+    ∷ versionFound 3 shows []
+    ∷ markList (0 ∷ 1 ∷ []) shows (unnamed 4 ∷ [])
+    ∷ numbersFound 1 1 shows []
+    ∷ versionFound 1 shows []
+    ∷ markList (0 ∷ []) shows (unnamed 4 ∷ marks (1 ∷ 1 ∷ []) ∷ unsound ∷ [])
+    ∷ numbersFound 2 0 shows []
+    ∷ versionFound 2 shows []
+    ∷ command (8 ∷ 8 ∷ []) shows (code 1 ∷ actions 34 ∷ marks [] ∷ flash (blocks (0xa0 ∷ 0xff ∷ 0xff ∷ 0xa3 ∷ [])) ∷ [])
+    ∷ []
+
 -- the twelve, and those
 unfoldable pub examples : List Example
 examples =
     example1 ∷ example2 ∷ example3 ∷ example4 ∷ example5 ∷ example6 ∷ example7 ∷ example8 ∷ example9 ∷ example10 ∷ example11 ∷ example12
-    ∷ example13 ∷ example14 ∷ example15 ∷ example16
+    ∷ example13 ∷ example14 ∷ example15 ∷ example16 ∷ example17
     ∷ []
 
 -- "The twelve examples are proved from the definitions by a single statement over a single list": its proof is `all-hold`, in proofs/AllHold.antt

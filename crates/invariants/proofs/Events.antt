@@ -25,6 +25,7 @@ use Rattle.refusals.specs.declared.Needs.the-variants.{NewNumber}
 use Rattle.refusals.specs.Refusals.{isPrevious, flushMarks, reasonFor}
 use Rattle.refusals.proofs.Accepting.{accepts}
 use Rattle.registers.specs.Registers.{commandOf, sequenceOf, argument, number, bytesOf, padded, reply}
+use Rattle.marklist.specs.MarkList.{answerFor, listed}
 use Rattle.mailbox.specs.Commands.{Outcome, numbered, numberedIn, marked, infoArguments, sizeFor, hint, createArguments}
 use Rattle.mailbox.specs.Table.{Command}
 use Rattle.mailbox.specs.Mediator.{commandAt, reasonOf, reasonIn}
@@ -132,7 +133,7 @@ disagreeing flash memory s apart =
     (decided (sound flash memory s))
 
 pub disagreeing-refused : DisagreeingRefused
-unfolding soundAt reasonFor advanced
+unfolding soundAt reasonFor answerFor listed advanced
 disagreeing-refused setup registers m apart =
     let e = disagreeing (length (m .flash)) (length (m .memory)) (m .session) apart in
-    (rw e, λ done. rw e)
+    (rw e, λ list. rw e, λ done. rw e)

@@ -26,15 +26,18 @@ use Rattle.registers.specs.Registers.{commandOf, argument, number}
 use Rattle.refusals.specs.declared.Needs.the-variants.{Access, WriteWindow}
 use Rattle.refusals.specs.Refusals.{blocksNamed, flushMarks, isWrite, reasonFor}
 use Rattle.refusals.proofs.Accepting.{passed, named-within}
+use Rattle.marklist.specs.declared.ListAnswer.the-variants.{Marked}
+use Rattle.marklist.specs.MarkList.{pairsOf, markPairs}
+use Rattle.marklist.proofs.Taken.{taken, list-left}
 use Rattle.mailbox.specs.Commands.{Outcome, numbered, sizeFor, hint, marked, created, ackAnswer}
 use Rattle.mailbox.specs.Table.{Command, createReadWindow, createWriteWindow, create, from}
 use Rattle.mailbox.specs.Mediator.{commandAt, reasonOf, reasonIn}
 use Rattle.mailbox.proofs.Mediating.{each-command, each-answer}
-use Rattle.invariants.specs.Kept.{FreshSound, CommandKeeps, AccessKeeps, FlushSound}
+use Rattle.invariants.specs.Kept.{FreshSound, CommandKeeps, ListKeeps, AccessKeeps, FlushSound}
 use Rattle.mailbox.proofs.Front.{size-fits}
-use Rattle.invariants.proofs.MarksKept.{marked-sound}
+use Rattle.invariants.proofs.MarksKept.{marked-sound, list-sound}
 
-write-is : (w : Window) → isWrite w ≡ true → w ≡ Write
+pub write-is : (w : Window) → isWrite w ≡ true → w ≡ Write
 write-is Closed e = absurd (false≢true e)
 write-is Read e = absurd (false≢true e)
 write-is Write e = refl
@@ -157,6 +160,17 @@ command-keeps setup registers m e =
     each-answer (Keeps setup (m .session) registers (m .flash) (m .memory) e) setup registers m
     (served-keeps setup (m .session) registers (m .flash) (m .memory) e (commandOf registers) (soundIn setup m))
     (λ code. broken-keeps setup (m .session) registers (m .flash) (m .memory) e code (commandOf registers)) (λ code. same) (λ code. e)
+
+pub list-keeps : ListKeeps
+list-keeps setup list m e =
+    list-left (λ (t : Session). soundAt setup (length (m .flash)) (length (m .memory)) t ≡ true) setup list m e
+    (λ a.
+    let s = m .session in
+    let z = measured setup (length (m .flash)) (length (m .memory)) s e in
+    let t = taken (soundIn setup m) list s Marked refl a in
+    let write = write-is (s .window) (t .0 .writes) in
+    refitted-at setup (length (m .flash)) (length (m .memory)) s (withMarks (markPairs (pairsOf list) (s .marks)) s) e (z .fits .known) (z .fits .access) (z .fits .window)
+    (rw write (list-sound (s .size) 0 (pairsOf list) (s .marks) (t .1) (rw write at (z .fits .marks)))) refl)
 
 pub access-keeps : AccessKeeps
 access-keeps setup flash memory s e =

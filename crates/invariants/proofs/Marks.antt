@@ -35,7 +35,7 @@ use Rattle.invariants.specs.Marks.{isNamed, MarksAsSaid, SameWindow, Sam
 use Rattle.invariants.proofs.Kept.{sounds-unless}
 
 -- ---- the marks, block by block
-placed : (start count mark block : ℕ) (marks : List ℕ) → start + count ≤ length marks
+pub placed : (start count mark block : ℕ) (marks : List ℕ) → start + count ≤ length marks
     → getD (replace start (replicate count mark) marks) block 0 ≡ cond (leb start block && ltb block (start + count)) mark (getD marks block 0)
 placed start count mark block marks fits =
     let long = length-replicate count mark in

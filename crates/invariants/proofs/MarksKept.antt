@@ -10,7 +10,11 @@ use lib.ListN.{take, drop, replicate, length-replicate}
 use lib.Seq.{drop-drop}
 use Rattle.units.proofs.Cases.{both}
 use Rattle.buffers.specs.Ranges.{replace}
+use Rattle.session.specs.Marks.{dirty}
 use Rattle.soundness.specs.Soundness.{marksSound}
+use Rattle.marklist.specs.declared.ListAnswer.the-variants.{Marked}
+use Rattle.marklist.specs.MarkList.{Pair, firstOutside, markPairs}
+use Rattle.marklist.proofs.InPairs.{inside-front}
 
 module _ (mark : ℕ) (fine : leb mark 2 ≡ true) where
   alike : (n count : ℕ) → count ≤ n → marksSound n (replicate count mark ++ []) ≡ true
@@ -39,3 +43,11 @@ module _ (mark : ℕ) (fine : leb mark 2 ≡ true) where
       ap (λ (t : List ℕ). marksSound n (take start ms ++ (replicate count mark ++ t)))
       (ap (λ (k : ℕ). drop (start + k) ms) (length-replicate count mark) ∙ sym (drop-drop count start ms))
       ∙ spliced n start count ms h e
+
+-- and where the blocks of a list's pairs become dirty
+pub list-sound : (n place : ℕ) (pairs : List Pair) (ms : List ℕ) → firstOutside n place pairs ≡ Marked → marksSound n ms ≡ true
+    → marksSound n (markPairs pairs ms) ≡ true
+list-sound n place [] ms e h = h
+list-sound n place (pair ∷ pairs) ms e h =
+    let f = inside-front n place pair pairs e in
+    list-sound n (suc place) pairs (replace (pair .block) (replicate (pair .count) dirty) ms) (f .1) (marked-sound dirty refl n (pair .block) (pair .count) ms (f .0) h)

@@ -29,6 +29,7 @@ use Rattle.refusals.specs.declared.Needs.the-variants.{Access}
 use Rattle.refusals.specs.Refusals.{flushMarks, reasonFor}
 use Rattle.refusals.proofs.Accepting.{passed}
 use Rattle.registers.specs.Registers.{commandOf, number}
+use Rattle.marklist.specs.MarkList.{answerFor, listed}
 use Rattle.mailbox.specs.Commands.{Outcome, numbered, numberedIn, marked, flushing}
 use Rattle.mailbox.specs.Table.{Command}
 use Rattle.mailbox.specs.Mediator.{commandAt, reasonOf, reasonIn, mediate}
@@ -66,10 +67,10 @@ counts s c =
     λ i. record { dirty = dirty i; erased = erased i }
 
 pub miscounted-refused : MiscountedRefused
-unfolding soundAt reasonFor advanced
+unfolding soundAt reasonFor answerFor listed advanced
 miscounted-refused setup registers m apart =
     let e = miscounted (length (m .flash)) (length (m .memory)) (m .session) (not-counted (m .session) apart) in
-    (rw e, λ done. rw e)
+    (rw e, λ list. rw e, λ done. rw e)
 
 right : (setup : Setup) (m : Machine) → soundIn setup m ≡ true → m .session .counts ≡ countsOf (m .session .marks)
 right setup m e = measured setup (length (m .flash)) (length (m .memory)) (m .session) e .fits .counts

@@ -1,6 +1,6 @@
 -- What a run of any calls keeps: the claims stand in specs/Runs.antt.
 use mathlib.Core.Path.{_≡_, refl, sym, ap, _∙_}
-use mathlib.Core.Bool.{Bool, true, false, not}
+use mathlib.Core.Bool.{Bool, true, false, not, false≢true}
 use mathlib.Core.List.{List, [], _∷_}
 use mathlib.Core.Logic.{⊎-elim}
 use mathlib.Core.Option.{Option, none, some}
@@ -27,15 +27,18 @@ use Rattle.flush.specs.Window.{windowActions, performIn, hasNext, performNext, 
 use Rattle.flush.proofs.Cuts.{all-flush, all-take, all-drop}
 use Rattle.flush.proofs.Whole.{in-length}
 use Rattle.refusals.proofs.Accepting.{never-system}
+use Rattle.marklist.specs.declared.ListAnswer.{ListAnswer}
+use Rattle.marklist.specs.MarkList.{listCode, pairsOf, answerFor}
+use Rattle.marklist.proofs.Taken.{list-left, list-answer, each-check, pairs-code}
 use Rattle.mailbox.specs.Mediator.{commandIn, reasonOf, reasonIn, mediate}
-use Rattle.mailbox.specs.Runs.{Call, send, suspend, resume, resumeChanged, advance, write, alter, written, called, calledAll}
+use Rattle.mailbox.specs.Runs.{Call, send, markList, suspend, resume, resumeChanged, advance, write, alter, written, called, calledAll}
 use Rattle.mailbox.proofs.Lengths.{memory-long}
 use Rattle.invariants.specs.Demand2.{flushedFor, Leaves}
 use Rattle.invariants.specs.Events.{eventsAfter}
 use Rattle.invariants.specs.Runs.{RunLengths, RunEvents, RunKeeps, RunServed, RunFromFresh}
 use Rattle.invariants.proofs.Demand2.{demand-2}
 use Rattle.invariants.proofs.Events.{command-events}
-use Rattle.invariants.proofs.Kept.{command-keeps, access-keeps, fresh-sound}
+use Rattle.invariants.proofs.Kept.{command-keeps, list-keeps, access-keeps, fresh-sound}
 
 -- ---- lengths
 
@@ -86,6 +89,7 @@ call-long setup (send registers) m = (
   leaves-long (flushedFor (reasonIn setup registers m) (m .session) registers) (m .flash) (m .memory) (mediate setup registers m .machine .flash) (mediate setup registers m .actions) (demand-2 setup registers m),
   memory-long setup registers m,
 )
+call-long setup (markList list) m = (refl, refl)
 call-long setup suspend m = (refl, refl)
 call-long setup resume m = (refl, refl)
 call-long setup resumeChanged m = (refl, refl)
@@ -110,6 +114,8 @@ call-events : (setup : Setup) (call : Call) (m : Machine)
     → bitAnd (called setup call m .session .events) 0xbc ≡ bitAnd (m .session .events) 0xbc
 call-events setup (send registers) m =
     same-part acknowledgeable 0xbc (eventsAfter setup registers m) (m .session .events) refl (command-events setup registers m)
+call-events setup (markList list) m =
+    list-left (λ (t : Session). bitAnd (t .events) 0xbc ≡ bitAnd (m .session .events) 0xbc) setup list m refl (λ _. refl)
 call-events setup suspend m =
     let s = m .session in
     access-same (not (s .suspended)) s (withAccess true (setBits controlLost (s .events)) s) (set-within 0x43 controlLost (s .events) refl)
@@ -134,6 +140,7 @@ run-events setup (call ∷ calls) m = run-events setup calls (called setup call 
 call-sound : (setup : Setup) (call : Call) (m : Machine) → soundIn setup m ≡ true
     → soundAt setup (length (m .flash)) (length (m .memory)) (called setup call m .session) ≡ true
 call-sound setup (send registers) m e = command-keeps setup registers m e
+call-sound setup (markList list) m e = list-keeps setup list m e
 call-sound setup suspend m e = access-keeps setup (length (m .flash)) (length (m .memory)) (m .session) e .0
 call-sound setup resume m e = access-keeps setup (length (m .flash)) (length (m .memory)) (m .session) e .1
 call-sound setup resumeChanged m e = access-keeps setup (length (m .flash)) (length (m .memory)) (m .session) e .2
@@ -155,12 +162,20 @@ step-served m e done q =
     (record { code = 1; yes = hasNext (m .session) done; flash = performNext m done })
     (λ _ r. omega arith) (λ _ r. omega arith) (rw e at q)
 
+list-served : (list : List ℕ) (s : Session) → listCode (answerFor true list s) ≡ 4 → ⊥
+list-served list s =
+    each-check (λ (a : ListAnswer). listCode a ≡ 4 → ⊥) true list s (λ q. absurd (false≢true (sym q))) (λ _ q. omega arith) (λ _ q. omega arith)
+    (λ _ _ q. omega arith) (λ _ q. omega arith)
+    (λ _. pairs-code (λ (code : ℕ). code ≡ 4 → ⊥) (λ q. omega arith) (λ q. omega arith) (s .size) 0 (pairsOf list))
+
 pub run-served : RunServed
 run-served setup calls m e =
     let n = calledAll setup calls m in
     let sounds = run-keeps setup calls m e in (
       λ registers q.
           never-system (n .session) registers _ _ _ (ap (λ (b : Bool). reasonOf (commandIn registers) b registers n) (sym sounds) ∙ q),
+      λ list q.
+          list-served list (n .session) (sym (ap listCode (list-answer setup list n ∙ ap (λ (b : Bool). answerFor b list (n .session)) sounds)) ∙ q),
       step-served n (measured setup (length (n .flash)) (length (n .memory)) (n .session) sounds .sound),
     )
 

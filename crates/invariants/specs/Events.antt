@@ -12,6 +12,7 @@ use Rattle.flush.specs.Window.{advanced}
 use Rattle.refusals.specs.declared.Reason.the-variants.{Accepted, System}
 use Rattle.refusals.specs.Refusals.{isPrevious}
 use Rattle.registers.specs.Registers.{commandOf, sequenceOf, argument}
+use Rattle.marklist.specs.MarkList.{listCode, listedIn}
 use Rattle.mailbox.specs.Mediator.{reasonIn, mediate}
 
 -- the event byte after a command
@@ -37,8 +38,11 @@ CommandEvents =
 abbrev pub EventsShown : Type 0
 EventsShown = (setup : Setup) (registers : List ℕ) (m : Machine) → getD (mediate setup registers m .registers) 15 0 ≡ eventsAfter setup registers m
 
--- "bit 0x40 disagreeing with the suspension is SYSTEM_ERROR, first as before", whatever the command; a step "answers 4 .. and changes nothing"
+-- "bit 0x40 disagreeing with the suspension is SYSTEM_ERROR, first as before", whatever the command, and for a list of marks; a step "answers 4 .. and
+-- changes nothing"
 abbrev pub DisagreeingRefused : Type 0
 DisagreeingRefused =
     (setup : Setup) (registers : List ℕ) (m : Machine) → (isSet 0x40 (m .session .events) ≡ m .session .suspended → ⊥)
-    → (reasonIn setup registers m ≡ System) × ((done : ℕ) → advanced m done ≡ record { code = 4; yes = false; flash = m .flash })
+    → (reasonIn setup registers m ≡ System)
+    × ((list : List ℕ) → listCode (listedIn setup list m .answer) ≡ 4)
+    × ((done : ℕ) → advanced m done ≡ record { code = 4; yes = false; flash = m .flash })

@@ -12,6 +12,7 @@ use Rattle.soundness.specs.Soundness.{sizesSound, sound, soundAt, soundIn}
 use Rattle.session.specs.Suspension.{suspended, resumed, resumedChanged}
 use Rattle.refusals.specs.declared.Reason.the-variants.{Accepted, System}
 use Rattle.registers.specs.Registers.{commandOf}
+use Rattle.marklist.specs.MarkList.{listedIn}
 use Rattle.mailbox.specs.Commands.{numbered, flushing}
 use Rattle.mailbox.specs.Table.{flush}
 use Rattle.mailbox.specs.Mediator.{reasonIn, mediate}
@@ -27,6 +28,12 @@ abbrev pub CommandKeeps : Type 0
 CommandKeeps =
     (setup : Setup) (registers : List ℕ) (m : Machine) → soundIn setup m ≡ true
     → soundAt setup (length (m .flash)) (length (m .memory)) (mediate setup registers m .machine .session) ≡ true
+
+-- a list of marks in one call, refused or not (02, Ticket 4)
+abbrev pub ListKeeps : Type 0
+ListKeeps =
+    (setup : Setup) (list : List ℕ) (m : Machine) → soundIn setup m ≡ true
+    → soundAt setup (length (m .flash)) (length (m .memory)) (listedIn setup list m .session) ≡ true
 
 -- suspend, resume, and "Resume 'with changed flash'"
 abbrev pub AccessKeeps : Type 0

@@ -3,6 +3,7 @@ pub mod Demand2
 pub mod Events
 pub mod Flags
 pub mod Kept
+pub mod MarkList
 pub mod Marks
 pub mod Memory
 pub mod Pending

@@ -18,6 +18,7 @@ use Rattle.soundness.specs.Pending.{pendingIn}
 use Rattle.flush.specs.Window.{windowActions, advanced}
 use Rattle.refusals.specs.declared.Reason.the-variants.{Accepted, System, Argument}
 use Rattle.registers.specs.Registers.{commandOf, number}
+use Rattle.marklist.specs.MarkList.{listCode, listedIn}
 use Rattle.mailbox.specs.Commands.{flushing}
 use Rattle.mailbox.specs.Mediator.{reasonIn, mediate}
 use Rattle.mailbox.specs.Runs.{Call, calledAll}
@@ -39,13 +40,15 @@ pub record Counted (s : Session) : Type 0 where
   pub dirty : s .counts .dirty ≡ howMany 1 (s .marks)
   pub erased : s .counts .erased ≡ howMany 2 (s .marks)
 
--- "disagreement is SYSTEM_ERROR, first as before", whatever the command; a step "answers 4 .. and changes nothing"
+-- "disagreement is SYSTEM_ERROR, first as before", whatever the command, and for a list of marks; a step "answers 4 .. and changes nothing"
 abbrev pub MiscountedRefused : Type 0
 MiscountedRefused =
     (setup : Setup) (registers : List ℕ) (m : Machine) → (Counted (m .session) → ⊥)
-    → (reasonIn setup registers m ≡ System) × ((done : ℕ) → advanced m done ≡ record { code = 4; yes = false; flash = m .flash })
+    → (reasonIn setup registers m ≡ System)
+    × ((list : List ℕ) → listCode (listedIn setup list m .answer) ≡ 4)
+    × ((done : ℕ) → advanced m done ≡ record { code = 4; yes = false; flash = m .flash })
 
--- "correct after every call on a sound session": it stays sound (`CommandKeeps`, `AccessKeeps`), and a sound session's are. After any list of calls
+-- "correct after every call on a sound session": it stays sound (`CommandKeeps`, `ListKeeps`, `AccessKeeps`), and a sound session's are. After any list of calls
 abbrev pub RunCounted : Type 0
 RunCounted = (setup : Setup) (calls : List Call) (m : Machine) → soundIn setup m ≡ true → Counted (calledAll setup calls m .session)
 

@@ -1,5 +1,5 @@
--- What a run of any calls keeps: commands with any registers, suspends, resumes of both kinds, steps, host writes, and what another writes in the flash. A
--- single call is a run of one. Proved in proofs/Runs.antt.
+-- What a run of any calls keeps: commands with any registers, lists of marks in one call, suspends, resumes of both kinds, steps, host writes, and what
+-- another writes in the flash. A single call is a run of one. Proved in proofs/Runs.antt.
 use mathlib.Core.Path.{_≡_}
 use mathlib.Core.Bool.{true}
 use mathlib.Core.List.{List}
@@ -13,6 +13,7 @@ use Rattle.session.specs.Record.{fresh}
 use Rattle.soundness.specs.Soundness.{sizesSound, soundIn}
 use Rattle.flush.specs.Window.{advanced}
 use Rattle.refusals.specs.declared.Reason.the-variants.{System}
+use Rattle.marklist.specs.MarkList.{listCode, listedIn}
 use Rattle.mailbox.specs.Mediator.{reasonIn}
 use Rattle.mailbox.specs.Runs.{Call, calledAll}
 
@@ -36,11 +37,12 @@ RunEvents =
 abbrev pub RunKeeps : Type 0
 RunKeeps = (setup : Setup) (calls : List Call) (m : Machine) → soundIn setup m ≡ true → soundIn setup (calledAll setup calls m) ≡ true
 
--- so that SYSTEM_ERROR to a command, and 4 to a step, never come from what the calls themselves leave
+-- so that SYSTEM_ERROR to a command, and 4 to a list of marks or a step, never come from what the calls themselves leave
 abbrev pub RunServed : Type 0
 RunServed =
     (setup : Setup) (calls : List Call) (m : Machine) → soundIn setup m ≡ true
     → ((registers : List ℕ) → reasonIn setup registers (calledAll setup calls m) ≡ System → ⊥)
+    × ((list : List ℕ) → listCode (listedIn setup list (calledAll setup calls m) .answer) ≡ 4 → ⊥)
     × ((done : ℕ) → advanced (calledAll setup calls m) done .code ≡ 4 → ⊥)
 
 -- ---- from "a fresh session", wherever the sizes and B are sound

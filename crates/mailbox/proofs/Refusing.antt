@@ -1,15 +1,13 @@
 -- What a refusal leaves, and what the other arms of a `match` on a reason know.
 use mathlib.Core.Path.{_≡_, refl, sym, ap, subst, _∙_}
-use mathlib.Core.Bool.{Bool, true, false, _||_, false≢true}
+use mathlib.Core.Bool.{true, false}
 use mathlib.Core.List.{List, [], _∷_}
-use mathlib.Core.Logic.{⊎-elim}
 use Prim.Native.Nat.{ℕ}
-use lib.Dec.{eqb}
 use lib.ListN.{length}
-use borrow.Author.Tests.{eq-eqb}
 use denote.Enum.Declared.{tagOf}
 use types.Run.{OneOf}
 use Rattle.units.specs.Units.{roundUp}
+use Rattle.units.proofs.Keys.{has, none-of}
 use Rattle.session.specs.declared.Session.{Session}
 use Rattle.session.specs.Machine.{Setup, Machine, lent}
 use Rattle.refusals.proofs.Reason.{the-type}
@@ -22,24 +20,6 @@ use Rattle.mailbox.specs.Table.{Command}
 use Rattle.mailbox.specs.Mediator.{reasonOf, answerTo, obeyed}
 use Rattle.mailbox.specs.declared.Answer.{Answer}
 use Rattle.mailbox.proofs.Mediating.{refused-by}
-
--- ---- a number that is none of an arm's keys
-abbrev has : ℕ → List ℕ → Bool
-has x [] = false
-has x (k ∷ ks) = eqb x k || has x ks
-
-later : (b c : Bool) → (b || c) ≡ false → c ≡ false
-later true c e = absurd (false≢true (sym e))
-later false c e = e
-
-none-of : (ks : List ℕ) (x : ℕ) → has x ks ≡ false → OneOf ks x → ⊥
-none-of [] x h o = o
-none-of (k ∷ []) x h o = false≢true (sym (rw (eq-eqb x k o) at h))
-none-of (k ∷ k′ ∷ ks) x h o =
-    ⊎-elim
-    (λ (e : x ≡ k). false≢true (sym (rw (eq-eqb x k e) at h)))
-    (λ (t : OneOf (k′ ∷ ks) x). none-of (k′ ∷ ks) x (later (eqb x k) (has x (k′ ∷ ks)) h) t)
-    o
 
 -- a reason in an arm that does not have it
 pub not-here : (ks : List ℕ) (r q : Reason) → has (tagOf the-type q) ks ≡ false → OneOf ks (tagOf the-type r) → r ≡ q → ⊥

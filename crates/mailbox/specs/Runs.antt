@@ -7,11 +7,14 @@ use Rattle.buffers.specs.Ranges.{replace}
 use Rattle.session.specs.Machine.{Setup, Machine, lent, holding}
 use Rattle.session.specs.Suspension.{suspended, resumed, resumedChanged}
 use Rattle.flush.specs.Window.{advanced}
+use Rattle.marklist.specs.MarkList.{afterList}
 use Rattle.mailbox.specs.Mediator.{mediate}
 
 pub data Call : Type 0 where
   -- a mailbox command, with any content of the registers
   send : List ℕ → Call
+  -- a list of marks in one call, with any numbers (02, Ticket 4)
+  markList : List ℕ → Call
   -- suspend, resume, and "Resume 'with changed flash'"
   suspend resume resumeChanged : Call
   -- the flush advanced by one action, told any "number of actions already done"
@@ -28,6 +31,7 @@ written at bytes buffer = take (length buffer) (replace at bytes buffer)
 -- what a call leaves
 abbrev pub called : Setup → Call → Machine → Machine
 called setup (send registers) m = mediate setup registers m .machine
+called setup (markList list) m = afterList setup list m
 called setup suspend m = holding (suspended (m .session) .session) m
 called setup resume m = holding (resumed (m .session) .session) m
 called setup resumeChanged m = holding (resumedChanged (m .session) .session) m

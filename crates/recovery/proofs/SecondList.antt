@@ -4,8 +4,6 @@ use mathlib.Core.Bool.{Bool, true, false, cond}
 use mathlib.Core.List.{List, [], _∷_}
 use mathlib.Core.Logic.{_⊎_, ⊎-elim}
 use Prim.Native.Nat.{ℕ, _≤_, min}
-use native.Mathlib.Omega.{arith}
-use lib.Dec.{ltb}
 use lib.ListN.{length, getD}
 use borrow.Author.Tests.{leb-true}
 use Rattle.units.specs.Units.{toBytes}
@@ -26,56 +24,18 @@ use Rattle.refusals.specs.declared.Reason.{Reason}
 use Rattle.refusals.specs.declared.Reason.the-variants.{Accepted, System, Repeated, Unknown, Suspended, Windowless, Argument}
 use Rattle.registers.specs.Registers.{commandOf, argument}
 use Rattle.refusals.specs.Refusals.{blocksNamed, flushMarks, codeFor}
+use Rattle.marklist.specs.MarkList.{pairsOf, markPairs, afterList}
+use Rattle.marklist.proofs.Taken.{list-left}
 use Rattle.mailbox.specs.Commands.{Outcome, numbered, numberedIn, marked, flushing, created, flushedAll}
-use Rattle.mailbox.specs.Table.{Command, getInfo, createWriteWindow, markDirty, flush, erase}
+use Rattle.mailbox.specs.Table.{getInfo, createWriteWindow, markDirty, flush, erase}
 use Rattle.mailbox.specs.Mediator.{commandAt, commandIn, reasonIn, answerTo, mediate}
-use Rattle.mailbox.proofs.Mediating.{mediate-as, carried, each-command}
-use Rattle.mailbox.specs.Runs.{Call, send, suspend, resume, resumeChanged, advance, write, alter, written, called, calledAll}
+use Rattle.mailbox.proofs.Mediating.{mediate-as, carried}
+use Rattle.mailbox.specs.Runs.{Call, send, markList, suspend, resume, resumeChanged, advance, write, alter, written, called, calledAll}
 use Rattle.mailbox.proofs.Lengths.{memory-long}
 use Rattle.invariants.proofs.Kept.{fresh-sound}
 use Rattle.invariants.proofs.Runs.{write-long}
+use Rattle.invariants.proofs.Succeeding.{accepted}
 use Rattle.recovery.specs.Second.{response, sent, Allowed, AllAllowed, begun}
-
--- ---- a response of 1 is that of a command that no check refused
-module _ (setup : Setup) (s : Session) (registers flash memory : List ℕ) where
-  abbrev code : Outcome → ℕ
-  code o = getD (o .registers) 13 0
-
-  late : (a b : ℕ) → (a ≡ 1 → ⊥) → (b ≡ 1 → ⊥) → (t : Bool) → cond t a b ≡ 1 → ⊥
-  late a b p q true e = p e
-  late a b p q false e = q e
-
-  -- a refusal for an argument, of a create or of another command, has code 2
-  broken-code : (n : ℕ) → code (commandAt n .whenBroken 2 registers (lent (numbered s registers) flash memory)) ≡ 1 → ⊥
-  broken-code = each-command (λ (_ : ℕ) (c : Command). code (c .whenBroken 2 registers (lent (numbered s registers) flash memory)) ≡ 1 → ⊥) two two two two two two two two two two (λ _. two)
-    where
-      two : _≡_ {A = ℕ} 2 1 → ⊥
-      two q = omega arith
-
-  refused-code : (r : Reason) → (r ≡ Accepted → ⊥) → code (answerTo r (commandIn registers) setup registers (lent s flash memory)) ≡ 1 → ⊥
-  unfolding answerTo
-  refused-code Accepted n e = n refl
-  refused-code System n e = omega arith
-  refused-code Repeated n e = late 2 8 (λ q. omega arith) (λ q. omega arith) (ltb (s .version) 2) e
-  refused-code Unknown n e = omega arith
-  refused-code Suspended n e = late 5 6 (λ q. omega arith) (λ q. omega arith) (ltb (s .version) 2) e
-  refused-code Windowless n e = late 2 7 (λ q. omega arith) (λ q. omega arith) (ltb (s .version) 2) e
-  refused-code Argument n e = broken-code (commandOf registers) e
-
-  accepted : code (mediate setup registers (lent s flash memory)) ≡ 1 → reasonIn setup registers (lent s flash memory) ≡ Accepted
-  accepted h = go (reasonIn setup registers (lent s flash memory)) refl
-    where
-      no : (r : Reason) → reasonIn setup registers (lent s flash memory) ≡ r → (r ≡ Accepted → ⊥) → ⊥
-      no r e n = refused-code r n (ap code (sym (mediate-as setup registers (lent s flash memory) r e)) ∙ h)
-
-      go : (r : Reason) → reasonIn setup registers (lent s flash memory) ≡ r → reasonIn setup registers (lent s flash memory) ≡ Accepted
-      go Accepted e = e
-      go System e = absurd (no System e (λ q. let z : _≡_ {A = ℕ} 0 1 = cc in omega arith))
-      go Repeated e = absurd (no Repeated e (λ q. let z : _≡_ {A = ℕ} 0 1 = cc in omega arith))
-      go Unknown e = absurd (no Unknown e (λ q. let z : _≡_ {A = ℕ} 0 1 = cc in omega arith))
-      go Suspended e = absurd (no Suspended e (λ q. let z : _≡_ {A = ℕ} 0 1 = cc in omega arith))
-      go Windowless e = absurd (no Windowless e (λ q. let z : _≡_ {A = ℕ} 0 1 = cc in omega arith))
-      go Argument e = absurd (no Argument e (λ q. let z : _≡_ {A = ℕ} 0 1 = cc in omega arith))
 
 -- ---- a flush without marks leaves the flash
 clean-none : flushActions clean ≡ []
@@ -246,10 +206,17 @@ module _ (setup : Setup) (first size long : ℕ) (flash : List ℕ) (room : toBy
         (sym (mediate-as setup registers m (reasonIn setup registers m) refl))
         (answered-open (reasonIn setup registers m) refl)
 
+  -- a list of marks in one call, refused or not
+  list-open : (m : Machine) → Open first size long flash m → (list : List ℕ) → Open first size long flash (afterList setup list m)
+  list-open m o list =
+      list-left (λ (t : Session). Open first size long flash (lent t (m .flash) (m .memory))) setup list m o
+      (λ _. kept-open m o (withMarks (markPairs (pairsOf list) (m .session .marks)) (m .session)) refl refl refl refl refl (m .memory) refl)
+
   call-open : (call : Call) → Allowed size call → (m : Machine) → Open first size long flash m → Open first size long flash (called setup call m)
   call-open (send registers) w m o = sent-open m o registers (commandOf registers) refl w
   call-open (write at bytes) w m o =
       kept-open m o (m .session) refl refl refl refl refl (written at bytes (m .memory)) (write-long at bytes (m .memory))
+  call-open (markList list) w m o = list-open m o list
   call-open suspend w m o = absurd w
   call-open resume w m o = absurd w
   call-open resumeChanged w m o = absurd w

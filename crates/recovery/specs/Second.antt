@@ -15,7 +15,7 @@ use Rattle.registers.specs.Registers.{commandOf}
 use Rattle.mailbox.specs.Commands.{flushing}
 use Rattle.mailbox.specs.Table.{getInfo, createWriteWindow, markDirty, flush, erase}
 use Rattle.mailbox.specs.Mediator.{mediate}
-use Rattle.mailbox.specs.Runs.{Call, send, suspend, resume, resumeChanged, advance, write, alter, called, calledAll}
+use Rattle.mailbox.specs.Runs.{Call, send, markList, suspend, resume, resumeChanged, advance, write, alter, called, calledAll}
 use Rattle.recovery.specs.Cut.{stepped, step, afterAll, answers, actionsOf, start}
 
 -- a mailbox command: its response register, and what it leaves
@@ -25,9 +25,11 @@ response setup registers m = getD (mediate setup registers m .registers) 13 0
 abbrev pub sent : Setup → List ℕ → Machine → Machine
 sent setup registers m = called setup (send registers) m
 
--- "any list of MARK_DIRTY and ERASE commands, refused ones included, with host writes in the window", and no other call
+-- "any list of MARK_DIRTY and ERASE commands, refused ones included, with host writes in the window", and lists of marks in one call, which mark as such commands
+-- do or nothing (02, Ticket 4); and no other call
 abbrev pub Allowed : ℕ → Call → Type 0
 Allowed size (send registers) = (commandOf registers ≡ markDirty .code) ⊎ (commandOf registers ≡ erase .code)
+Allowed size (markList list) = Unit
 Allowed size (write at bytes) = at + length bytes ≤ toBytes size
 Allowed size suspend = ⊥
 Allowed size resume = ⊥

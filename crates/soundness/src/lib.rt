@@ -1,10 +1,12 @@
 // When the lent sizes, B and a session are sound, and how much of a session is pending.
 //
-// Every length and every session record gets an answer; what is not sound is SYSTEM_ERROR to a command and, B aside, 4 to a step.
+// Every length and every session record gets an answer; what is not sound is SYSTEM_ERROR to a command or a list of marks and, B
+// aside, 4 to a step.
 mod marks;
 mod pending_work;
 
 use marks::look_at;
+pub use marks::with_marks;
 pub use pending_work::PendingWork;
 pub use pending_work::pending;
 use session::Board;

@@ -1,19 +1,25 @@
-// One look at all marks.
+// One look at all marks, and a session with others.
 use session::Counts;
 use session::DIRTY;
 use session::ERASED;
+use session::Session;
 use session::ZERO_COUNTS;
 use session::of_kind;
+use session::with_counted;
 ghost use mathlib.Core.Path.{_≡_};
 ghost use mathlib.Core.Bool.{cond, _&&_};
 ghost use mathlib.Core.List.{List, _∷_};
 ghost use Prim.Native.Nat.{ℕ, _<_, max};
 ghost use lib.Dec.{leb, eqb};
 ghost use Rattle.session.specs.Marks.{countsOf};
+ghost use Rattle.session.specs.Record.{withMarks};
 ghost use Rattle.soundness.specs.Soundness.{marksSound};
 
 // The largest mark that there is.
 const LAST_MARK: u8 = 2;
+
+// A look at the numbers alone: any block may be marked.
+pub(crate) const EVERY_BLOCK: u16 = 64;
 
 // What the look tells: whether the marks are those of a window of which so many blocks may be marked, and their numbers.
 pub struct Look {
@@ -43,6 +49,13 @@ pub(crate) fn look_at(marks: [u8; 64], markable: u16) -> Look
         within: is_within(largest, end, markable),
         counts,
     }
+}
+
+// Other marks, counted.
+pub fn with_marks(session: Session, marks: [u8; 64]) -> Session
+    ensures { λ r. ⌜ r ≡ withMarks marks session ⌝ }
+{
+    with_counted(session, marks, look_at(marks, EVERY_BLOCK).counts)
 }
 
 // The largest mark is one, and the last marked block may be marked.

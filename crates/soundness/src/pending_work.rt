@@ -1,4 +1,5 @@
 // How much of a session is pending: what is marked, and what its flush would take.
+use crate::marks::EVERY_BLOCK;
 use crate::marks::look_at;
 use session::Session;
 use session::same_counts;
@@ -7,9 +8,6 @@ ghost use Rattle.soundness.specs.Pending.{pendingIn};
 
 // The chip actions of a dirty block: the erase, and 16 pages.
 const DIRTY_ACTIONS: u32 = 17;
-
-// A look at the numbers alone: any block may be marked.
-const EVERY_BLOCK: u16 = 64;
 
 // How much is pending.
 pub enum PendingWork {

@@ -38,6 +38,19 @@ struct Bytes {
 }
 
 #[repr(C)]
+struct Numbers {
+    data: *const u16,
+    len: usize,
+}
+
+#[repr(C)]
+pub struct ListReply {
+    pub code: u8,
+    pub named: u8,
+    pub place: u8,
+}
+
+#[repr(C)]
 pub struct Suspended {
     pub done: u8,
     pub record: Record,
@@ -60,6 +73,7 @@ pub struct Work {
 extern "C" {
     pub fn hiomap_fresh() -> Record;
     fn hiomap_command(record: *mut Record, registers: *mut [u8; 16], lpc: u16, timeout: u16, flash: Bytes, memory: Bytes) -> u32;
+    fn hiomap_mark_list(record: *mut Record, list: Numbers, lpc: u16, timeout: u16, flash: usize, memory: usize) -> ListReply;
     pub fn hiomap_suspend(record: Record) -> Suspended;
     pub fn hiomap_resume(record: Record) -> Suspended;
     pub fn hiomap_resume_changed(record: Record) -> Suspended;
@@ -83,6 +97,15 @@ pub fn fresh() -> Record {
 
 pub fn command(record: &mut Record, registers: &mut [u8; 16], lpc: u16, timeout: u16, flash: &mut [u8], memory: &mut [u8]) -> u32 {
     unsafe { hiomap_command(record, registers, lpc, timeout, bytes(flash), bytes(memory)) }
+}
+
+/// The code, and the place of the first bad pair where one is named. Only the lengths of both buffers are handed over.
+pub fn mark_list(record: &mut Record, list: &[u16], lpc: u16, timeout: u16, flash: usize, memory: usize) -> (u8, Option<usize>) {
+    let list = Numbers { data: list.as_ptr(), len: list.len() };
+    let answer = unsafe { hiomap_mark_list(record, list, lpc, timeout, flash, memory) };
+    let named = yes(answer.named);
+    assert!(named || answer.place == 0, "no pair is named, and its place is {}", answer.place);
+    (answer.code, named.then_some(answer.place.into()))
 }
 
 pub fn suspend(record: &mut Record) -> bool {

@@ -86,6 +86,25 @@ impl Pair {
         self.same(format_args!("command {registers:02X?}"), (lent.registers, ours), (after, theirs))
     }
 
+    pub fn mark_list(&mut self, list: &[u16]) -> Result<(), String> {
+        let (flash, memory) = (self.flash[0].part().len(), self.memory[0].part().len());
+        self.mark_list_of(list, flash, memory)
+    }
+
+    /// With any lengths of both buffers, which the call does not touch.
+    pub fn mark_list_of(&mut self, list: &[u16], flash: usize, memory: usize) -> Result<(), String> {
+        let mut lent = Lent::new(self.record[0], [GUARD; 16]);
+        let lent = black_box(&mut lent);
+        let ours = crate::mark_list(&mut lent.record, list, self.lpc, self.timeout, flash, memory);
+        let lent = black_box(lent);
+        if !lent.is_guarded() || lent.registers != [GUARD; 16] {
+            return Err(format!("list {list:?}: bytes around the record changed"));
+        }
+        self.record[0] = lent.record;
+        let theirs = twin::mark_list(&mut self.record[1], list, self.lpc, flash, memory);
+        self.same(format_args!("list {list:?}, flash of {flash} bytes, window memory of {memory}"), ours, theirs)
+    }
+
     pub fn step(&mut self, done: u64) -> Result<(), String> {
         let ours = crate::step(&self.record[0], self.flash[0].part(), self.memory[0].part(), done);
         let theirs = twin::step(&self.record[1], self.flash[1].part(), self.memory[1].part(), done);

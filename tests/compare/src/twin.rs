@@ -22,6 +22,16 @@ pub fn command(record: &mut Record, registers: &mut [u8; 16], lpc: u16, timeout:
     actions
 }
 
+pub fn mark_list(record: &mut Record, list: &[u16], lpc: u16, flash: usize, memory: usize) -> (u8, Option<usize>) {
+    if !stands_for_a_session(record) {
+        return (second::SYSTEM_ERROR, None);
+    }
+    let mut session = session_of(record);
+    let answer = second::mark_list(&mut session, flash, memory, lpc, list);
+    *record = record_of(&session, record.previous);
+    answer
+}
+
 pub fn step(record: &Record, flash: &mut [u8], memory: &[u8], done: u64) -> (u8, bool) {
     if !stands_for_a_session(record) {
         return (second::SYSTEM_ERROR, false);

@@ -1,8 +1,9 @@
 //! An independent second implementation of the controller's side of hiomap
 //! versions 1 and 2, written from document 01 and QUESTIONS.md alone, then
-//! brought to tickets 1, 7 and 2 of 02, beside which only what the source
-//! documents 000, 002 and 004 say of events, ACK, windows and CLOSE was read,
-//! and what ticket 2's issue decides, from a brief that relayed it.
+//! brought to tickets 1, 7, 2 and 4 of 02, beside which only what the source
+//! documents 000, 002 and 004 say of events, ACK, windows, CLOSE and MARK_DIRTY
+//! was read, what ticket 2's issue decides, from a brief that relayed it, and
+//! ticket 4's issue with the brief that named the call's form.
 //! Ticket 5 changes no answer. No other ticket is in.
 //! It is plain on purpose: it is there to be compared with.
 
@@ -16,6 +17,8 @@ pub const PAGE: usize = 256;
 pub const PAGES: usize = BLOCK / PAGE;
 /// Most blocks of window memory, and the number of marks.
 pub const MARKS: usize = 64;
+/// Most pairs in a list of marks (ticket 4).
+pub const PAIRS: usize = 64;
 
 pub const CLEAN: u8 = 0;
 pub const DIRTY: u8 = 1;
@@ -108,7 +111,7 @@ impl Session {
 /// The number of blocks in a buffer, if it is whole blocks, 1 to `most`.
 fn whole_blocks(len: usize, most: usize) -> Option<usize> {
     let blocks = len / BLOCK;
-    let good = len % BLOCK == 0 && blocks >= 1 && blocks <= most;
+    let good = len.is_multiple_of(BLOCK) && blocks >= 1 && blocks <= most;
     good.then_some(blocks)
 }
 
@@ -527,11 +530,16 @@ struct Range {
     to: usize,
 }
 
+/// k blocks from window block w on; none if past the window's end.
+fn window_range(s: &Session, w: u16, k: u16) -> Option<Range> {
+    let from = usize::from(w);
+    let to = from + usize::from(k);
+    (to <= usize::from(s.size)).then_some(Range { from, to })
+}
+
 /// Version 2: w blocks into the window, k blocks; none if past its end.
 fn range_in_blocks(s: &Session, regs: &[u8; 16]) -> Option<Range> {
-    let from = usize::from(arg16(regs, 0));
-    let to = from + usize::from(arg16(regs, 2));
-    (to <= usize::from(s.size)).then_some(Range { from, to })
+    window_range(s, arg16(regs, 0), arg16(regs, 2))
 }
 
 /// Version 1: flash block a and L bytes, rounded up to blocks.
@@ -597,6 +605,47 @@ fn erase_command(s: &mut Session, regs: &[u8; 16], window: &mut [u8]) -> Answer 
             done(0)
         }
     }
+}
+
+// ---------------------------------------------------------- list of marks
+
+/// Marks a list of pairs, window block and count, dirty at version 2 (ticket 4).
+/// Answers the code, and the place (from 0) of the first bad pair where the last
+/// check refuses. Every pair is checked before the first is marked, so a refusal
+/// changes nothing. No sequence number is used or remembered.
+pub fn mark_list(
+    s: &mut Session,
+    flash_len: usize,
+    window_len: usize,
+    b: u16,
+    list: &[u16],
+) -> (u8, Option<usize>) {
+    if !sound_with_lpc(s, flash_len, window_len, b) {
+        return (SYSTEM_ERROR, None);
+    }
+    if s.version != 2 {
+        return (PARAM_ERROR, None);
+    }
+    if s.suspended {
+        return (BUSY, None);
+    }
+    if s.kind != Kind::Write {
+        return (WINDOW_ERROR, None);
+    }
+    if list.len() % 2 == 1 || list.len() > 2 * PAIRS {
+        return (PARAM_ERROR, None);
+    }
+    let mut ranges = Vec::new();
+    for (place, pair) in list.chunks(2).enumerate() {
+        match window_range(s, pair[0], pair[1]) {
+            None => return (PARAM_ERROR, Some(place)),
+            Some(range) => ranges.push(range),
+        }
+    }
+    for range in ranges {
+        set_marks(s, range, DIRTY);
+    }
+    (SUCCESS, None)
 }
 
 // ------------------------------------------------------------------ bench
@@ -860,6 +909,10 @@ flash 0 0 0 300
         fn step(&mut self, done: u64) -> (u8, bool) {
             step(&self.s, &mut self.flash, &self.window, done)
         }
+
+        fn list(&mut self, list: &[u16]) -> (u8, Option<usize>) {
+            mark_list(&mut self.s, self.flash.len(), self.window.len(), self.b, list)
+        }
     }
 
     fn regs(code: u8, sequence: u8, args: &[u8]) -> [u8; 16] {
@@ -919,6 +972,9 @@ flash 0 0 0 300
         s.marks[block] = mark;
         recount(s);
     }
+
+    /// Something done to a session by hand.
+    type Change<'a> = &'a dyn Fn(&mut Session);
 
     /// Sends, expects this refusal, and that it changed only the previous number.
     fn refuses(rig: &mut Rig, code: u8, args: &[u8], answer: u8) {
@@ -2172,7 +2228,7 @@ flash 0 0 0 300
     /// The lamp looks at nothing but marks and kept numbers.
     #[test]
     fn lamp_answers_other_unsound_records() {
-        let changes: [(&dyn Fn(&mut Session), (u32, u32)); 9] = [
+        let changes: [(Change, (u32, u32)); 9] = [
             (&|s| s.version = 7, (3, 35)),
             (&|s| s.events ^= 0x40, (3, 35)),
             (&|s| s.kind = Kind::Read, (3, 35)),
@@ -2366,6 +2422,418 @@ flash 0 0 0 300
                 assert_eq!(pending(&s), Some((0, 0)));
             }
         }
+    }
+
+    // --------------------------------------------------------- 02, ticket 4
+
+    /// Calls, expects this refusal, and that it changed nothing at all.
+    fn list_refuses(rig: &mut Rig, list: &[u16], code: u8, place: Option<usize>) {
+        let before = rig.clone();
+        assert_eq!(rig.list(list), (code, place));
+        assert!(*rig == before, "a refusal changed something");
+    }
+
+    /// Calls, expects success and these first marks, the kept numbers right and
+    /// nothing else changed.
+    fn list_marks(rig: &mut Rig, list: &[u16], expected: &[u8]) {
+        let mut before = rig.clone();
+        assert_eq!(rig.list(list), (SUCCESS, None));
+        assert_eq!(marks(rig, expected.len()), expected);
+        lamp_is_right(&rig.s);
+        before.s.marks = rig.s.marks;
+        recount(&mut before.s);
+        assert!(*rig == before, "more than the marks changed");
+    }
+
+    /// S = C = 64 and a write window of all of them, no marks.
+    fn wide_rig() -> Rig {
+        let mut rig = Rig::sized(2, 64, 64);
+        (rig.s.kind, rig.s.size) = (Kind::Write, 64);
+        rig
+    }
+
+    /// That many pairs of one block each, from block 0 on and round again.
+    fn single_blocks(pairs: usize) -> Vec<u16> {
+        (0..pairs).flat_map(|n| [(n % 64) as u16, 1]).collect()
+    }
+
+    #[test]
+    fn list_marks_every_pair() {
+        list_marks(&mut cut_rig([0; 4]), &[1, 2], &[0, 1, 1, 0]);
+        list_marks(&mut cut_rig([0; 4]), &[3, 1, 0, 1], &[1, 0, 0, 1]);
+        list_marks(&mut cut_rig([0; 4]), &[0, 4], &[1, 1, 1, 1]);
+        list_marks(&mut cut_rig([1, 0, 2, 1]), &[1, 1], &[1, 1, 2, 1]);
+        list_marks(&mut cut_rig([2, 2, 2, 2]), &[2, 0, 1, 1], &[2, 1, 2, 2]);
+    }
+
+    #[test]
+    fn list_empty_succeeds_and_marks_nothing() {
+        for marks in all_marks() {
+            list_marks(&mut cut_rig(marks), &[], &marks);
+        }
+        list_marks(&mut wide_rig(), &[], &[0; 64]);
+    }
+
+    /// The refusals that do not look at the list come to an empty one too.
+    #[test]
+    fn list_empty_is_refused_for_the_session() {
+        list_refuses(&mut Rig { b: 65_535, ..lamp_rig(2) }, &[], SYSTEM_ERROR, None);
+        list_refuses(&mut lamp_rig(0), &[], PARAM_ERROR, None);
+        list_refuses(&mut lamp_rig(1), &[], PARAM_ERROR, None);
+        let mut rig = lamp_rig(2);
+        assert!(suspend(&mut rig.s));
+        list_refuses(&mut rig, &[], BUSY, None);
+        list_refuses(&mut Rig::new(2), &[], WINDOW_ERROR, None);
+        list_refuses(&mut Rig::open(2, Kind::Read, 0, 2), &[], WINDOW_ERROR, None);
+    }
+
+    #[test]
+    fn list_order_system_error_before_version() {
+        for version in [0, 1] {
+            let mut rig = lamp_rig(version);
+            rig.b = 65_533;
+            list_refuses(&mut rig, &[0, 1], SYSTEM_ERROR, None);
+            rig.b = 65_532;
+            list_refuses(&mut rig, &[0, 1], PARAM_ERROR, None);
+            rig.s.dirty = 3;
+            list_refuses(&mut rig, &[0, 1], SYSTEM_ERROR, None);
+        }
+        list_refuses(&mut lamp_rig(3), &[0, 1], SYSTEM_ERROR, None);
+        list_refuses(&mut lamp_rig(255), &[0, 1], SYSTEM_ERROR, None);
+    }
+
+    #[test]
+    fn list_order_version_before_suspended() {
+        for version in [0, 1] {
+            let mut rig = lamp_rig(version);
+            assert!(suspend(&mut rig.s));
+            list_refuses(&mut rig, &[0, 1], PARAM_ERROR, None);
+            rig.s.version = 2;
+            list_refuses(&mut rig, &[0, 1], BUSY, None);
+        }
+    }
+
+    #[test]
+    fn list_order_suspended_before_window() {
+        for mut rig in [Rig::new(2), Rig::open(2, Kind::Read, 0, 2)] {
+            assert!(suspend(&mut rig.s));
+            list_refuses(&mut rig, &[0, 1], BUSY, None);
+            assert!(resume(&mut rig.s));
+            list_refuses(&mut rig, &[0, 1], WINDOW_ERROR, None);
+        }
+    }
+
+    #[test]
+    fn list_order_window_before_length() {
+        for mut rig in [Rig::new(2), Rig::open(2, Kind::Read, 0, 2)] {
+            for list in [vec![0], vec![0, 1, 0], vec![0; 129], vec![0; 130]] {
+                list_refuses(&mut rig, &list, WINDOW_ERROR, None);
+                let mut open = Rig::open(2, Kind::Write, 0, 2);
+                list_refuses(&mut open, &list, PARAM_ERROR, None);
+            }
+        }
+    }
+
+    /// Bad from the first pair on, and no place is named until the length is good.
+    #[test]
+    fn list_order_length_before_pairs() {
+        let mut rig = lamp_rig(2);
+        for length in [1, 3, 127, 129, 130, 131, 132, 1_000] {
+            list_refuses(&mut rig, &vec![65_535; length], PARAM_ERROR, None);
+        }
+        for length in [2, 4, 126, 128] {
+            list_refuses(&mut rig, &vec![65_535; length], PARAM_ERROR, Some(0));
+        }
+        let mut list = vec![0; 128];
+        list[126] = 5;
+        list_refuses(&mut rig, &list, PARAM_ERROR, Some(63));
+        list.extend([0, 0]);
+        list_refuses(&mut rig, &list, PARAM_ERROR, None);
+    }
+
+    /// Every choice of the six refusals' causes: the first in order answers.
+    #[test]
+    fn list_order_of_any_causes() {
+        let answers = [
+            (SYSTEM_ERROR, None),
+            (PARAM_ERROR, None),
+            (BUSY, None),
+            (WINDOW_ERROR, None),
+            (PARAM_ERROR, None),
+            (PARAM_ERROR, Some(1)),
+        ];
+        for causes in 0..64u32 {
+            let given = |cause: usize| causes >> cause & 1 == 1;
+            let mut rig = Rig::open(2, Kind::Write, 1, 2);
+            let mut list = vec![0, 1, 1, 1, 2, 0];
+            if given(0) {
+                rig.b = 65_535;
+            }
+            if given(1) {
+                rig.s.version = 1;
+            }
+            if given(2) {
+                assert!(suspend(&mut rig.s));
+            }
+            if given(3) {
+                rig.s.kind = Kind::Read;
+            }
+            if given(4) {
+                list.push(0);
+            }
+            if given(5) {
+                list[3] = 2;
+            }
+            match (0..6).find(|&cause| given(cause)) {
+                None => list_marks(&mut rig, &list, &[1, 1]),
+                Some(first) => list_refuses(&mut rig, &list, answers[first].0, answers[first].1),
+            }
+        }
+    }
+
+    /// The lengths and B, as `command` asks them; S to 65,535 and C to 64.
+    #[test]
+    fn list_lent_sizes() {
+        let good = |flash_len, window_len, b| {
+            let start = Session { previous: Some(9), ..Rig::open(2, Kind::Write, 0, 1).s };
+            let mut s = start.clone();
+            let answer = mark_list(&mut s, flash_len, window_len, b, &[0, 1]);
+            let good = sound_with_lpc(&start, flash_len, window_len, b);
+            assert_eq!(answer, (if good { SUCCESS } else { SYSTEM_ERROR }, None));
+            assert_eq!(s != start, good);
+            good
+        };
+        assert!(good(BLOCK, BLOCK, 0));
+        assert!(good(65_535 * BLOCK, 64 * BLOCK, 65_472));
+        assert!(good(BLOCK, BLOCK, 65_535));
+        assert!(!good(65_535 * BLOCK, 64 * BLOCK, 65_473));
+        assert!(!good(BLOCK, 2 * BLOCK, 65_535));
+        assert!(!good(0, BLOCK, 0));
+        assert!(!good(BLOCK, 0, 0));
+        assert!(!good(BLOCK + 1, BLOCK, 0));
+        assert!(!good(BLOCK, 2 * BLOCK - 1, 0));
+        assert!(!good(65_536 * BLOCK, BLOCK, 0));
+        assert!(!good(BLOCK, 65 * BLOCK, 0));
+        assert!(!good(usize::MAX, usize::MAX, 65_535));
+        assert!(!good(usize::MAX - (BLOCK - 1), BLOCK, 0));
+        assert!(!good(BLOCK, usize::MAX - (BLOCK - 1), 65_535));
+    }
+
+    /// What is SYSTEM_ERROR for a command is so for every list.
+    #[test]
+    fn list_unsound_sessions() {
+        let changes: [Change; 16] = [
+            &|s| s.version = 3,
+            &|s| s.events ^= 0x40,
+            &|s| s.suspended = true,
+            &|s| s.first = 3,
+            &|s| s.first = 65_535,
+            &|s| s.size = 0,
+            &|s| s.size = 5,
+            &|s| s.size = 65_535,
+            &|s| s.kind = Kind::Read,
+            &|s| s.kind = Kind::Closed,
+            &|s| put_mark(s, 0, 3),
+            &|s| put_mark(s, 4, DIRTY),
+            &|s| put_mark(s, 63, ERASED),
+            &|s| s.dirty += 1,
+            &|s| s.erased = 0,
+            &|s| s.marks[1] = DIRTY,
+        ];
+        for change in changes {
+            let mut rig = lamp_rig(2);
+            change(&mut rig.s);
+            for list in [vec![], vec![0], vec![0, 1], vec![4, 1], vec![0, 0, 65_535, 65_535]] {
+                list_refuses(&mut rig, &list, SYSTEM_ERROR, None);
+            }
+            list_refuses(&mut rig, &single_blocks(64), SYSTEM_ERROR, None);
+            list_refuses(&mut rig, &single_blocks(65), SYSTEM_ERROR, None);
+            assert_eq!(rig.code(MARK_DIRTY, &wk(0, 1)), SYSTEM_ERROR);
+        }
+        for (dirty, erased) in WRONG {
+            let mut rig = lamp_rig(2);
+            (rig.s.dirty, rig.s.erased) = (dirty, erased);
+            list_refuses(&mut rig, &[0, 1], SYSTEM_ERROR, None);
+        }
+        for (events, suspended) in DISAGREEING {
+            let mut rig = with_events(2, events, suspended);
+            list_refuses(&mut rig, &[0, 1], SYSTEM_ERROR, None);
+            rig.s.events ^= 0x40;
+            let code = if suspended { BUSY } else { SUCCESS };
+            assert_eq!(rig.list(&[0, 1]), (code, None));
+        }
+    }
+
+    #[test]
+    fn list_64_and_65_pairs() {
+        list_marks(&mut wide_rig(), &single_blocks(63), &[[1; 63].as_slice(), &[0]].concat());
+        list_marks(&mut wide_rig(), &single_blocks(64), &[1; 64]);
+        list_refuses(&mut wide_rig(), &single_blocks(65), PARAM_ERROR, None);
+        list_refuses(&mut wide_rig(), &single_blocks(66), PARAM_ERROR, None);
+        list_marks(&mut cut_rig([2; 4]), &[0; 128], &[2; 4]);
+        list_refuses(&mut cut_rig([2; 4]), &[0; 130], PARAM_ERROR, None);
+    }
+
+    /// Every length up to 300 of pairs that are all good.
+    #[test]
+    fn list_lengths() {
+        let start = lamp_rig(2);
+        for length in 0..300 {
+            let mut rig = start.clone();
+            let list: Vec<u16> = (0..length).map(|n| n as u16 % 2).collect();
+            if length % 2 == 1 || length > 128 {
+                list_refuses(&mut rig, &list, PARAM_ERROR, None);
+            } else {
+                list_marks(&mut rig, &list, &[1, 0, 2, 1]);
+            }
+        }
+        let mut rig = wide_rig();
+        for length in [1, 3, 129] {
+            list_refuses(&mut rig, &single_blocks(65)[..length], PARAM_ERROR, None);
+        }
+    }
+
+    #[test]
+    fn list_very_long() {
+        for length in [1 << 20, (1 << 20) - 1, (1 << 20) + 1, 65_536, 65_536 + 2, 65_536 + 128] {
+            for value in [0, 65_535] {
+                let list = vec![value; length];
+                list_refuses(&mut lamp_rig(2), &list, PARAM_ERROR, None);
+                list_refuses(&mut Rig::new(2), &list, WINDOW_ERROR, None);
+                list_refuses(&mut lamp_rig(1), &list, PARAM_ERROR, None);
+                list_refuses(&mut lamp_rig(3), &list, SYSTEM_ERROR, None);
+            }
+        }
+    }
+
+    #[test]
+    fn list_count_0_is_checked_and_marks_nothing() {
+        for size in 1..=4 {
+            let mut rig = Rig::sized(2, 6, 4);
+            (rig.s.kind, rig.s.first, rig.s.size) = (Kind::Write, 1, size);
+            put_mark(&mut rig.s, 0, ERASED);
+            for w in 0..=size {
+                list_marks(&mut rig, &[w, 0], &[2]);
+            }
+            list_marks(&mut rig, &[size, 0, size, 0, 0, 0], &[2]);
+            for w in [size + 1, size + 2, 256, 32_768, 65_535] {
+                list_refuses(&mut rig, &[w, 0], PARAM_ERROR, Some(0));
+                list_refuses(&mut rig, &[0, 1, size, 0, w, 0], PARAM_ERROR, Some(2));
+            }
+        }
+        list_marks(&mut wide_rig(), &[64, 0], &[0; 64]);
+        list_refuses(&mut wide_rig(), &[65, 0], PARAM_ERROR, Some(0));
+    }
+
+    #[test]
+    fn list_sums_are_whole_numbers() {
+        let past = [
+            (65_535, 1),
+            (65_535, 2),
+            (65_535, 65_535),
+            (1, 65_535),
+            (2, 65_535),
+            (0, 65_535),
+            (32_768, 32_768),
+            (32_769, 32_768),
+            (65_534, 4),
+        ];
+        let (mut rig, mut wide) = (lamp_rig(2), wide_rig());
+        for (w, k) in past {
+            list_refuses(&mut rig, &[w, k], PARAM_ERROR, Some(0));
+            list_refuses(&mut rig, &[1, 1, w, k, 1, 1], PARAM_ERROR, Some(1));
+            list_refuses(&mut wide, &[0, 64, 64, 0, w, k], PARAM_ERROR, Some(2));
+        }
+    }
+
+    /// The first bad pair is named, wherever it is and whatever follows; the
+    /// good ones before it are not marked.
+    #[test]
+    fn list_names_the_first_bad_pair() {
+        let mut rig = wide_rig();
+        for place in 0..64 {
+            let mut list = single_blocks(64);
+            list[2 * place] = 64;
+            list_refuses(&mut rig, &list, PARAM_ERROR, Some(place));
+            list_refuses(&mut rig, &list[..2 * place + 2], PARAM_ERROR, Some(place));
+            for later in place + 1..64 {
+                list[2 * later + 1] = 65_535;
+            }
+            list_refuses(&mut rig, &list, PARAM_ERROR, Some(place));
+        }
+        list_refuses(&mut lamp_rig(2), &[0, 4, 0, 5, 1, 4], PARAM_ERROR, Some(1));
+        list_refuses(&mut lamp_rig(2), &[0, 4, 4, 0, 1, 4], PARAM_ERROR, Some(2));
+    }
+
+    #[test]
+    fn list_overlapping_pairs() {
+        list_marks(&mut cut_rig([0; 4]), &[0, 2, 1, 2], &[1, 1, 1, 0]);
+        list_marks(&mut cut_rig([2; 4]), &[1, 2, 0, 2, 1, 1], &[1, 1, 1, 2]);
+        list_marks(&mut cut_rig([1, 0, 2, 1]), &[0, 4, 0, 4, 3, 1, 2, 2], &[1; 4]);
+        list_marks(&mut cut_rig([0; 4]), &[2, 1].repeat(64), &[0, 0, 1, 0]);
+        let mut rig = wide_rig();
+        list_marks(&mut rig, &[0, 64].repeat(64), &[1; 64]);
+        assert_eq!(pending(&rig.s), Some((64, 1_088)));
+    }
+
+    /// None stays none and a number stays that number, refused or not; then a
+    /// command is judged by it as if there had been no list.
+    #[test]
+    fn list_keeps_the_previous_number() {
+        for previous in [None, Some(0), Some(1), Some(7), Some(255)] {
+            let mut rig = lamp_rig(2);
+            rig.s.previous = previous;
+            list_marks(&mut rig, &[1, 1], &[1, 1, 2, 1]);
+            list_marks(&mut rig, &[], &[1, 1, 2, 1]);
+            list_refuses(&mut rig, &[1, 4], PARAM_ERROR, Some(0));
+            list_refuses(&mut rig, &[1], PARAM_ERROR, None);
+            assert_eq!(rig.s.previous, previous);
+            for sequence in [0, 1, 7, 8, 255] {
+                let mut after = rig.clone();
+                let repeated = previous == Some(sequence);
+                let code = if repeated { SEQ_ERROR } else { SUCCESS };
+                assert_eq!(after.raw(regs(MARK_DIRTY, sequence, &wk(0, 1)))[13], code);
+            }
+        }
+    }
+
+    /// Every row of marks under every pair and two lists of more.
+    #[test]
+    fn list_makes_erased_blocks_dirty() {
+        for row in all_marks() {
+            let start = cut_rig(row);
+            for (w, k) in (0..36).map(|n| (n % 6, n / 6)) {
+                let mut rig = start.clone();
+                if w + k > 4 {
+                    list_refuses(&mut rig, &[w, k], PARAM_ERROR, Some(0));
+                    continue;
+                }
+                let mut expected = row;
+                expected[w.into()..(w + k).into()].fill(1);
+                list_marks(&mut rig, &[w, k], &expected);
+                list_marks(&mut rig, &[w, k, 4, 0, w, k], &expected);
+            }
+            list_marks(&mut start.clone(), &[0, 1, 3, 1], &[1, row[1], row[2], 1]);
+            list_marks(&mut start.clone(), &[2, 2, 1, 2], &[row[0], 1, 1, 1]);
+        }
+        let mut rig = cut_rig([2, 2, 0, 1]);
+        assert_eq!((rig.s.dirty, rig.s.erased), (1, 2));
+        list_marks(&mut rig, &[1, 2], &[2, 1, 1, 1]);
+        assert_eq!((rig.s.dirty, rig.s.erased, pending(&rig.s)), (3, 1, Some((4, 52))));
+        assert_eq!(rig.code(FLUSH, &[]), SUCCESS);
+        assert_eq!((rig.actions, pending(&rig.s)), (52, Some((0, 0))));
+    }
+
+    #[test]
+    fn list_at_the_lamps_largest() {
+        let mut rig = wide_rig();
+        assert_eq!(rig.code(ERASE, &wk(0, 64)), SUCCESS);
+        assert_eq!(pending(&rig.s), Some((64, 64)));
+        list_marks(&mut rig, &single_blocks(64), &[1; 64]);
+        assert_eq!((rig.s.dirty, rig.s.erased), (64, 0));
+        assert_eq!(pending(&rig.s), Some((64, 1_088)));
+        assert_eq!(rig.code(ERASE, &wk(0, 64)), SUCCESS);
+        assert_eq!((rig.s.dirty, rig.s.erased), (0, 64));
     }
 
     // ---------------------------------------------------------------- bench
@@ -2625,5 +3093,182 @@ flash 0 0 0 300
             assert_eq!(rig.actions, 0);
         }
         after[13]
+    }
+
+    /// Sound, version 2, a write window; size, marks, event byte and previous
+    /// number are any.
+    fn random_write_window(random: &mut Random, flash_blocks: u16, window_blocks: u16) -> Session {
+        let size = 1 + random.below(window_blocks.into()) as u16;
+        let first = random.below(u64::from(flash_blocks - size) + 1) as u16;
+        let mut s = Session { version: 2, kind: Kind::Write, first, size, ..Session::fresh() };
+        for mark in &mut s.marks[..size.into()] {
+            *mark = random.below(3) as u8;
+        }
+        recount(&mut s);
+        s.events = random.below(256) as u8 & 0xBF;
+        s.previous = u8::try_from(random.below(300)).ok();
+        s
+    }
+
+    /// Up to 64 pairs; in some lists all are inside the window, in others a few
+    /// end just past it or are any numbers.
+    fn random_pairs(random: &mut Random, size: u16) -> Vec<u16> {
+        let most = if random.below(2) == 0 { 64 } else { 4 };
+        let pairs = random.below(most + 1);
+        let bad = random.below(3) > 0;
+        let mut list = Vec::new();
+        for _ in 0..pairs {
+            let w = random.below(u64::from(size) + 1) as u16;
+            let k = random.below(u64::from(size - w) + 1) as u16;
+            list.extend(match random.below(60) {
+                0 if bad => [w, size - w + 1],
+                1 if bad => [size + 1, 0],
+                2 if bad => [random.below(65_536) as u16, random.below(65_536) as u16],
+                _ => [w, k],
+            });
+        }
+        list
+    }
+
+    /// Sends the pairs as MARK_DIRTY in order, with these sequence numbers and any
+    /// other register bytes, up to the first refusal: how many succeeded, and its
+    /// code.
+    fn send_pairs(
+        rig: &mut Rig,
+        list: &[u16],
+        sequences: &[u8],
+        random: &mut Random,
+    ) -> (usize, Option<u8>) {
+        for (place, pair) in list.chunks(2).enumerate() {
+            let mut sent = [0; 16].map(|_: u8| random.below(256) as u8);
+            (sent[0], sent[1]) = (MARK_DIRTY, sequences[place]);
+            sent[2..6].copy_from_slice(&wk(pair[0], pair[1]));
+            let code = rig.raw(sent)[13];
+            if code != SUCCESS {
+                return (place, Some(code));
+            }
+        }
+        (list.len() / 2, None)
+    }
+
+    /// 64 sequence numbers, none of them twice and none the previous one.
+    fn never_repeating(previous: Option<u8>, random: &mut Random) -> Vec<u8> {
+        let from = previous.unwrap_or(random.below(256) as u8);
+        (1..=64).map(|n| from.wrapping_add(n)).collect()
+    }
+
+    /// Where all the single commands succeed, whatever their numbers, the list
+    /// answers 1 and leaves their session but for the previous number; where it
+    /// names place p, p of them succeed and the next is PARAM_ERROR.
+    #[test]
+    fn random_lists_equal_the_single_commands() {
+        let mut random = Random(64);
+        let (mut all, mut all_with_any, mut bad, mut bad_later) = (0, 0, 0, 0);
+        for (flash_blocks, window_blocks) in [(1, 1), (4, 2), (9, 5), (65, 64)] {
+            let mut rig = Rig::sized(2, flash_blocks.into(), window_blocks.into());
+            let before = rig.clone();
+            for _ in 0..1_500 {
+                let start = random_write_window(&mut random, flash_blocks, window_blocks);
+                let list = random_pairs(&mut random, start.size);
+                rig.s = start.clone();
+                let answer = rig.list(&list);
+                let listed = rig.s.clone();
+                lamp_is_right(&listed);
+
+                rig.s = start.clone();
+                let sequences = never_repeating(start.previous, &mut random);
+                let sent = send_pairs(&mut rig, &list, &sequences, &mut random);
+                match answer.1 {
+                    None => {
+                        assert_eq!(sent, (list.len() / 2, None));
+                        all += 1;
+                    }
+                    Some(place) => {
+                        assert_eq!((answer.0, sent), (PARAM_ERROR, (place, Some(PARAM_ERROR))));
+                        assert_eq!(listed, start);
+                        bad += 1;
+                        bad_later += u32::from(place > 0);
+                    }
+                }
+                if sent.1.is_none() {
+                    assert_eq!(answer, (SUCCESS, None));
+                    assert_eq!(listed, Session { previous: start.previous, ..rig.s.clone() });
+                }
+
+                rig.s = start.clone();
+                let any: Vec<u8> = (0..64).map(|_| random.below(256) as u8).collect();
+                if send_pairs(&mut rig, &list, &any, &mut random).1.is_none() {
+                    assert_eq!(answer, (SUCCESS, None));
+                    assert_eq!(listed, Session { previous: start.previous, ..rig.s.clone() });
+                    all_with_any += 1;
+                }
+            }
+            assert!(rig.flash == before.flash && rig.window == before.window);
+        }
+        let seen = [all, all_with_any, bad, bad_later];
+        assert!(seen.iter().all(|&times| times > 500), "{seen:?}");
+    }
+
+    /// Lists between other calls, in every state that they come to: refused for
+    /// the session with the code of a single command, otherwise as above.
+    #[test]
+    fn random_walks_of_ticket_4() {
+        let mut random = Random(40);
+        let mut codes = [0u32; 9];
+        let mut named = 0;
+        for _ in 0..60 {
+            let mut rig = Rig::sized(0, 4, 3);
+            for _ in 0..150 {
+                match random.below(30) {
+                    0 => drop(suspend(&mut rig.s)),
+                    1..=3 => drop(resume(&mut rig.s)),
+                    4 => drop(resume_changed(&mut rig.s)),
+                    5..=14 => {
+                        let (code, place) = walk_list(&mut rig, &mut random);
+                        codes[usize::from(code)] += 1;
+                        named += u32::from(place.is_some());
+                    }
+                    _ => drop(walk_one(&mut rig, &mut random)),
+                }
+                assert!(sound_with_lpc(&rig.s, rig.flash.len(), rig.window.len(), rig.b));
+                lamp_is_right(&rig.s);
+            }
+        }
+        assert!([1, 2, 4, 6, 7].iter().all(|&code| codes[code] > 20), "{codes:?}");
+        assert!(named > 20 && codes[2] > named + 20, "{named} of {codes:?}");
+    }
+
+    fn walk_list(rig: &mut Rig, random: &mut Random) -> (u8, Option<usize>) {
+        let start = rig.clone();
+        let list = random_pairs(random, rig.s.size);
+        rig.b = if random.below(10) == 0 { 65_534 } else { 16 };
+        let mut single = rig.clone();
+        let answer = rig.list(&list);
+        rig.b = start.b;
+        if answer.0 != SUCCESS {
+            assert!(*rig == start, "a refusal changed something");
+        }
+        if single.b != 16 {
+            assert_eq!(answer, (SYSTEM_ERROR, None));
+        } else if single.s.version != 2 {
+            assert_eq!(answer, (PARAM_ERROR, None));
+        }
+        if start.s.version == 2 && !list.is_empty() {
+            let sequences = never_repeating(start.s.previous, random);
+            let expected = match send_pairs(&mut single, &list, &sequences, random) {
+                (_, None) => (SUCCESS, None),
+                (place, Some(PARAM_ERROR)) => (PARAM_ERROR, Some(place)),
+                (place, Some(code)) => {
+                    assert_eq!(place, 0);
+                    (code, None)
+                }
+            };
+            assert_eq!(answer, expected);
+            if answer.0 == SUCCESS {
+                assert_eq!(rig.s, Session { previous: start.s.previous, ..single.s });
+                assert!(rig.flash == start.flash && rig.window == start.window);
+            }
+        }
+        answer
     }
 }

@@ -4,7 +4,7 @@
 //! boundary: BENCH names the bench program.
 
 use compare::pair::{Access, Pair};
-use compare::{program, twin, Record, Suspended, Work};
+use compare::{program, twin, ListReply, Record, Suspended, Work};
 use std::fs::File;
 use std::mem::{offset_of, size_of, transmute, MaybeUninit};
 
@@ -17,6 +17,7 @@ const _: () = assert!(offset_of!(Record, first) == 6 && offset_of!(Record, size)
 const _: () = assert!(offset_of!(Record, erased) == ERASED && offset_of!(Record, marks) == MARKS && size_of::<Record>() == RECORD);
 const _: () = assert!(offset_of!(Suspended, record) == 2 && size_of::<Suspended>() == SUSPENDED_ANSWER);
 const _: () = assert!(offset_of!(Work, blocks) == 4 && offset_of!(Work, actions) == 8 && size_of::<Work>() == 12);
+const _: () = assert!(offset_of!(ListReply, named) == 1 && offset_of!(ListReply, place) == 2 && size_of::<ListReply>() == 3);
 const NUMBERED: usize = 1;
 const SUSPENDED: usize = 4;
 const DIRTY: usize = 10;
@@ -69,6 +70,9 @@ fn every_call(pair: &Pair) -> Result<(), String> {
     pair.clone().command(registers(9, 8, &[0xff]))?;
     for done in [0, 1, 17] {
         pair.clone().step(done)?;
+    }
+    for list in [&[][..], &[0, 2], &[1, 1, 2, 0], &[0, 1, 1, 2, 9, 9], &[0]] {
+        pair.clone().mark_list(list)?;
     }
     for access in [Access::Suspend, Access::Resume, Access::ResumeChanged] {
         pair.clone().access(access)?;
@@ -133,6 +137,7 @@ fn lpc_and_timeout() -> Result<(), String> {
                     pair.record.iter_mut().for_each(|record| record.numbered = 0);
                     pair.command(registers(code, 5, &[argument])).map_err(|e| format!("lpc {lpc}, timeout {timeout}, {c} window blocks: {e}"))?;
                 }
+                pair.mark_list(&[0, 1]).map_err(|e| format!("lpc {lpc}, timeout {timeout}, {c} window blocks: {e}"))?;
             }
         }
     }
@@ -216,6 +221,46 @@ fn large_lengths() -> Result<(), String> {
         }
     }
     Ok(())
+}
+
+/// Lists of marks: each number with bytes that both count, lengths about the most pairs and about powers of two, and lengths of both buffers of
+/// which only the last bits are those of a good length.
+fn lists() -> Result<(), String> {
+    // the buffers are not touched, so that none are needed
+    let wide = Pair::new(Record { size: 64, marks: [2; 64], ..record(2, 2) }.counted(), &[], &[], 0xa1b2, 0xc3d4);
+    let ask = |list: &[u16]| wide.clone().mark_list_of(list, 65 * BLOCK, 64 * BLOCK);
+    let single: Vec<u16> = (0..64).flat_map(|block| [63 - block, 1]).collect();
+    for at in 0..128 {
+        for value in [0, 1, 2, 63, 64, 65, 0x0100, 0x0140, 0x4000, 0x8000, 0xff00, 0xffff] {
+            let mut list = single.clone();
+            list[at] = value;
+            ask(&list)?;
+            ask(&list[..at + 1])?;
+        }
+    }
+    let any = vec![0; (1 << 20) + 2];
+    let near = (0..21).flat_map(|shift| [(1 << shift) - 1, 1 << shift, (1 << shift) + 1, (1 << shift) + 2]);
+    for length in near.chain(0..140) {
+        ask(&any[..length])?;
+    }
+    // a length of which only the last bits are those of few pairs: addresses that can only be read
+    let zeros = Zeros::new((1 << 44) + 16);
+    for shift in [16, 31, 32, 33, 43] {
+        for more in [0, 1, 2, 4] {
+            ask(unsafe { std::slice::from_raw_parts(zeros.start.cast(), (1 << shift) + more) })?;
+        }
+    }
+    let small = pair(record(2, 2));
+    for shift in 5..64 {
+        for (flash, memory) in [(3, 2), (0, 2), (3, 0), (0, 0)] {
+            let (flash, memory) = (flash * BLOCK, memory * BLOCK);
+            let more = 1usize << shift;
+            for (flash, memory) in [(flash + more, memory), (flash, memory + more), (flash + more, memory + more)] {
+                small.clone().mark_list_of(&[0, 1], flash, memory)?;
+            }
+        }
+    }
+    small.clone().mark_list_of(&[0, 1], usize::MAX, usize::MAX)
 }
 
 /// Calls that do not write there.
@@ -381,6 +426,7 @@ fn main() {
         ("most actions", Box::new(most_actions)),
         ("wide answers", Box::new(wide_answers)),
         ("pending", Box::new(pending)),
+        ("lists", Box::new(lists)),
         ("bench", Box::new(move || bench(&program))),
     ];
     for (name, section) in &sections {

@@ -63,6 +63,19 @@ impl Machine {
         }
     }
 
+    fn mark_list(&mut self, list: &[u16]) -> (u8, Option<usize>) {
+        let (flash, memory) = (self.flash.len(), self.memory.len());
+        match self.side {
+            Side::Ours => {
+                let mut record = record_of(&self.session, 0);
+                let answer = compare::mark_list(&mut record, list, self.lpc, TIMEOUT, flash, memory);
+                self.session = session_of(&record);
+                answer
+            }
+            Side::Second => second::mark_list(&mut self.session, flash, memory, self.lpc, list),
+        }
+    }
+
     fn pending(&self) -> String {
         let answer = match self.side {
             Side::Ours => compare::pending(&record_of(&self.session, 0)),
@@ -441,6 +454,72 @@ fn pending(side: Side) {
     }
 }
 
+/// The code of a list of marks, and the pair that it names.
+fn list_text((code, place): (u8, Option<usize>)) -> String {
+    place.map_or(format!("{code}"), |place| format!("{code} at {place}"))
+}
+
+/// Each check of a list of marks by itself and before the others: the answers to a good list, none, a number too many, 65 pairs, a bad pair, that
+/// with a number too many, and 65 bad pairs; `~` where anything changed.
+fn list_checks(side: Side) {
+    let lists = [vec![1, 1], vec![], vec![1, 1, 0], [0, 1].repeat(65), vec![0, 1, 1, 2], vec![0, 1, 1, 2, 0], [9, 9].repeat(65)];
+    for version in 0..4 {
+        for kind in [Kind::Closed, Kind::Read, Kind::Write] {
+            for (suspended, lpc) in [(false, 65534), (true, 65534), (false, 65535), (true, 65535)] {
+                let answers = lists.iter().map(|list| {
+                    let mut m = Machine { lpc, ..with_window(side, version, kind) };
+                    if suspended {
+                        suspend(&mut m);
+                    }
+                    let before = m.clone();
+                    let answer = list_text(m.mark_list(list));
+                    format!("{answer}{}", if m.session == before.session && m.flash == before.flash && m.memory == before.memory { "" } else { "~" })
+                });
+                println!("version {version} window {kind:?} suspended {suspended} B {lpc}: {}", answers.collect::<Vec<_>>().join(", "));
+            }
+        }
+    }
+}
+
+/// A list of marks in one call, and the same pairs as single commands with numbers that never repeat, up to the first that is refused.
+fn print_list(m: &Machine, list: &[u16], name: &str) {
+    let (mut listed, mut single) = (m.clone(), m.clone());
+    let answer = list_text(listed.mark_list(list));
+    let mut codes = (10..).zip(list.chunks_exact(2)).map(|(sequence, pair)| single.send(7, sequence, pair).0[13]);
+    let refused = codes.position(|code| code != 1).map_or("none refused".into(), |place| format!("refused at {place}"));
+    single.session.previous = m.session.previous;
+    println!("  {name}: {answer}; {}; single commands {refused}, as they leave it {}", session_text(&listed.session), listed.session == single.session);
+}
+
+/// Lists of marks: each check, then lists about the edges of a window of three blocks and of 64.
+fn lists(side: Side) {
+    println!("window 1 to 2 of 4 blocks, window memory of 2: 1,1; none; 1,1,0; 65 times 0,1; 0,1,1,2; 0,1,1,2,0; 65 times 9,9; ~ where anything changed");
+    list_checks(side);
+    println!("window 2 to 4 of 6 blocks, window memory of 4, marks 2 1 0");
+    let mut m = Machine::new(side, 6 * BLOCK, 4 * BLOCK);
+    m.session = Session { version: 2, previous: Some(9), kind: Kind::Write, first: 2, size: 3, ..Session::fresh() };
+    m.mark(0, &[2, 1, 0]);
+    let lists: [&[u16]; 18] = [
+        &[], &[0, 1], &[2, 1], &[0, 3], &[2, 1, 0, 1], &[0, 2, 1, 2], &[1, 1, 1, 1, 1, 1], &[0, 0], &[3, 0], &[4, 0], &[0, 4], &[2, 2],
+        &[65535, 1], &[65535, 2], &[1, 65535], &[2, 65535], &[0, 1, 3, 0, 3, 1, 2, 1], &[0, 3, 9, 9, 0, 4],
+    ];
+    for list in lists {
+        print_list(&m, list, &format!("{list:?}"));
+    }
+    println!("window 1 to 64 of 66 blocks, window memory of 64, all marks 2");
+    let mut m = Machine::new(side, 66 * BLOCK, 64 * BLOCK);
+    m.session = Session { version: 2, kind: Kind::Write, first: 1, size: 64, ..Session::fresh() };
+    m.mark(0, &[2; 64]);
+    let single: Vec<u16> = (0..64).flat_map(|block| [63 - block, 1]).collect();
+    print_list(&m, &single, "64 pairs of one block");
+    print_list(&m, &single[..80], "40 pairs of one block");
+    print_list(&m, &[0, 64].repeat(64), "64 pairs of all blocks");
+    print_list(&m, &[&single[..126], &[64, 1]].concat(), "64 pairs, the last one bad");
+    print_list(&m, &[&single[..126], &[64, 0]].concat(), "64 pairs, the last one at the end");
+    print_list(&m, &[&single[..], &[0]].concat(), "129 numbers");
+    print_list(&m, &[&single[..], &[0, 1]].concat(), "65 pairs");
+}
+
 /// A window of 64 blocks: all marks, the last mark alone, and the most actions.
 fn full(side: Side) {
     let mut m = Machine::new(side, 66 * BLOCK, 64 * BLOCK);
@@ -483,6 +562,7 @@ fn main() {
         Some("events") => events(side),
         Some("cuts") => cuts(side),
         Some("pending") => pending(side),
+        Some("lists") => lists(side),
         Some("full") => full(side),
         Some("largest") => largest(side),
         _ => panic!("no such section"),

@@ -125,17 +125,42 @@ fn jump(r: &mut Random) -> u64 {
     }
 }
 
+/// A list of marks: mostly pairs inside the window, now and then one that is not, an odd length, or about the most pairs.
+fn pairs(r: &mut Random, size: u16) -> Vec<u16> {
+    let few = r.below(8) as usize;
+    let most = r.one_of(&[few, few, few, 63, 64, 65, 100]);
+    let bad = r.once_in(2);
+    let mut list = Vec::new();
+    for _ in 0..most {
+        let block = r.below(u64::from(size) + 1) as u16;
+        let count = r.below(u64::from(size.saturating_sub(block)) + 1) as u16;
+        match r.below(20) {
+            0 if bad => list.extend([block, size.saturating_sub(block) + 1]),
+            1 if bad => list.extend([r.next() as u16, r.next() as u16]),
+            _ => list.extend([block, count]),
+        }
+    }
+    if r.once_in(12) {
+        list.pop();
+    }
+    list
+}
+
 /// A list of calls, the same on both sides.
 fn calls(r: &mut Random) -> Result<(), String> {
     let mut pair = random_pair(r);
     let mut done = 0;
     for _ in 0..40 {
-        match r.below(12) {
+        match r.below(14) {
             0 => pair.access(r.one_of(&[Access::Suspend, Access::Resume, Access::ResumeChanged]))?,
             1 => host_write(r, &mut pair),
             2 | 3 => {
                 pair.step(done)?;
                 done = if r.once_in(2) { jump(r) } else { done.wrapping_add(1) };
+            }
+            4 | 5 => {
+                let list = pairs(r, pair.record[0].size);
+                pair.mark_list(&list)?;
             }
             _ => pair.command(registers(r, pair.record[0].previous))?,
         }
@@ -187,27 +212,34 @@ fn cut(r: &mut Random) -> Result<(), String> {
     let mut other = vec![0; c * BLOCK];
     r.fill(&mut other);
     let mut again = compare::fresh();
-    let mut send = |code: u8, sequence: u8, arguments: [u16; 2], flash: &mut Vec<u8>, other: &mut Vec<u8>| {
+    let send = |again: &mut Record, code: u8, sequence: u8, arguments: [u16; 2], flash: &mut Vec<u8>, other: &mut Vec<u8>| {
         let mut registers = [0; 16];
         registers[0] = code;
         registers[1] = sequence;
         registers[2..4].copy_from_slice(&arguments[0].to_le_bytes());
         registers[4..6].copy_from_slice(&arguments[1].to_le_bytes());
-        compare::command(&mut again, &mut registers, 16, 8, flash, other);
+        compare::command(again, &mut registers, 16, 8, flash, other);
         registers[13]
     };
-    send(2, 1, [2, 0], &mut flash, &mut other);
-    send(6, 2, [record.first, record.size], &mut flash, &mut other);
+    send(&mut again, 2, 1, [2, 0], &mut flash, &mut other);
+    send(&mut again, 6, 2, [record.first, record.size], &mut flash, &mut other);
+    // dirty blocks by single commands, or all of them in one call
+    let listed = r.once_in(2);
+    let mut list = Vec::new();
     for block in 0..size {
-        let code = [0, 7, 10][record.marks[block] as usize];
-        if code != 0 {
-            send(code, 3 + block as u8, [block as u16, 1], &mut flash, &mut other);
+        match record.marks[block] {
+            1 if listed => list.extend([block as u16, 1]),
+            0 => {}
+            mark => drop(send(&mut again, [7, 10][mark as usize - 1], 3 + block as u8, [block as u16, 1], &mut flash, &mut other)),
         }
         if record.marks[block] == 1 {
             other[block * BLOCK..(block + 1) * BLOCK].copy_from_slice(&memory[block * BLOCK..(block + 1) * BLOCK]);
         }
     }
-    if send(8, 200, [0, 0], &mut flash, &mut other) != 1 {
+    if compare::mark_list(&mut again, &list, 16, 8, flash.len(), other.len()) != (1, None) {
+        return Err("cut: the second run's list of marks was refused".into());
+    }
+    if send(&mut again, 8, 200, [0, 0], &mut flash, &mut other) != 1 {
         return Err("cut: the second flush was refused".into());
     }
     if flash != whole {

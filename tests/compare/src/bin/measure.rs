@@ -113,6 +113,47 @@ fn against_the_second(room: &mut Room) {
     }
 }
 
+/// Single commands, each on what the one before left, so many of them, for the blocks of a list of as many pairs or more.
+fn single_marks(record: &Record, room: &mut Room, blocks: u16) {
+    let mut record = *record;
+    for block in 0..blocks {
+        let mut registers = request(7, block, 1);
+        registers[1] = block as u8 + 1;
+        compare::command(&mut record, &mut registers, 16, 8, &mut room.flash, &mut room.memory);
+        assert_eq!(registers[13], 1);
+    }
+    black_box(record.events);
+}
+
+/// Lists of marks, against single commands and against the second implementation's list.
+fn against_single_commands(room: &mut Room) {
+    let clean = write_window(0, 64, 0);
+    let record = record_of(&clean, 0);
+    let single: Vec<u16> = (0..64).flat_map(|block| [block, 1]).collect();
+    let all: Vec<u16> = [0, 64].repeat(64);
+    let sizes = [64 * BLOCK; 2];
+    let ours = |list: &[u16]| {
+        let mut record = record;
+        assert_eq!(compare::mark_list(&mut record, black_box(list), 16, 8, sizes[0], sizes[1]), (1, None));
+        black_box(record.events);
+    };
+    let theirs = |list: &[u16]| {
+        let mut session = clean.clone();
+        assert_eq!(second::mark_list(&mut session, sizes[0], sizes[1], 16, black_box(list)), (1, None));
+        black_box(session.events);
+    };
+    let eight = least(200, 2_000, room, |_| ours(&single), |room| single_marks(&record, room, 8));
+    line("a list of 64 pairs of one block", "8 commands of one block", &[eight], 1.0);
+    let same = least(200, 2_000, room, |_| ours(&single), |room| single_marks(&record, room, 64));
+    line("a list of 64 pairs of one block", "64 commands of one block", &[same], 1.0);
+    let one = least(200, 20_000, room, |_| ours(&single[..2]), |room| single_marks(&record, room, 1));
+    line("a list of one pair", "one command", &[one], 1.0);
+    for (what, list) in [("a list of 64 pairs of one block", &single), ("a list of 64 pairs of 64 blocks", &all)] {
+        let both = least(200, 2_000, room, |_| ours(list), |_| theirs(list));
+        line(what, "the second implementation", &[both], 1.0);
+    }
+}
+
 /// How much is pending, against one look at the marks: both are handed the record by value.
 fn against_a_look(room: &mut Room) {
     let full = record_of(&write_window(0, 64, 1), 0);
@@ -144,6 +185,7 @@ fn main() {
     let closed = record_of(&Session { version: 2, ..Session::fresh() }, 0);
     against_the_machine(&mut rooms, &closed);
     against_the_second(&mut rooms[0]);
+    against_single_commands(&mut rooms[0]);
     against_a_look(&mut rooms[0]);
     against_a_small_chip(&closed);
 }
