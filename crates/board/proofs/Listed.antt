@@ -13,11 +13,11 @@ use Rattle.marklist.proofs.Taken.{listed-left, listed-answer}
 use Rattle.board.specs.declared.lists.ServedList.{ServedList}
 use Rattle.board.specs.declared.Record.{Record}
 use Rattle.board.specs.Record.{yesNo, isNumbered, numberOr, isRegular, sessionOf, recordOf}
-use Rattle.board.specs.Calls.{listedRecord, RecordListed}
+use Rattle.board.specs.Calls.{keptList, listedRecord, RecordListed}
 use Rattle.board.proofs.Answers.{nothing-lost}
 
 module _ (setup : Setup) (flash memory : ℕ) (list : List ℕ) (h : Record) where
-  after : Session
+  abbrev after : Session
   after = listed setup flash memory list (sessionOf h) .session
 
   -- the session's previous number stays, and without success the session
@@ -29,6 +29,17 @@ module _ (setup : Setup) (flash memory : ℕ) (list : List ℕ) (h : Record) whe
       listed-left (λ (t : Session). (listCode (listed setup flash memory list (sessionOf h) .answer) ≡ 1 → ⊥) → t ≡ sessionOf h)
       setup flash memory list (sessionOf h) (λ _. refl)
       (λ a n. absurd (n (ap listCode (listed-answer setup flash memory list (sessionOf h) ∙ a))))
+
+-- what is answered, by whether the record is regular
+pub list-irregular : (setup : Setup) (flash memory : ℕ) (list : List ℕ) (h : Record) → isRegular h ≡ false
+    → record { held = h; answer = record { code = 4; named = false; place = 0 } } ≡ listedRecord setup flash memory list h
+unfolding listedRecord
+list-irregular setup flash memory list h e = rw e refl
+
+pub list-regular : (setup : Setup) (flash memory : ℕ) (list : List ℕ) (h : Record) → isRegular h ≡ true
+    → keptList (h .previous) (listed setup flash memory list (sessionOf h)) ≡ listedRecord setup flash memory list h
+unfolding listedRecord
+list-regular setup flash memory list h e = rw e refl
 
 pub record-listed : RecordListed
 unfolding listedRecord

@@ -8,6 +8,7 @@ use marklist::ListAnswer;
 use marklist::mark_list;
 use session::Board;
 ghost use mathlib.Core.Path.{_≡_};
+ghost use mathlib.Core.Bool.{false};
 ghost use Rattle.board.specs.Calls.{board, listReplyOf, listedRecord};
 
 // What a list gives back.
@@ -30,14 +31,15 @@ pub(crate) fn mark_all(
     if !is_regular(held) {
         return ServedList {
             held,
-            answer: list_reply_of(ListAnswer::Unsound),
+            answer: unnamed(4),
         };
     }
     let board = Board { lpc, timeout };
     let listed = mark_list(session_of(held), list, board, flash, memory);
+    let answer = listed.answer;
     ServedList {
         held: record_of(listed.session, held.previous),
-        answer: list_reply_of(listed.answer),
+        answer: list_reply_of(answer),
     }
 }
 
