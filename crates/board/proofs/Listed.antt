@@ -10,7 +10,6 @@ use Rattle.session.specs.declared.Session.{Session}
 use Rattle.session.specs.Machine.{Setup}
 use Rattle.marklist.specs.MarkList.{listCode, listed}
 use Rattle.marklist.proofs.Taken.{listed-left, listed-answer}
-use Rattle.board.specs.declared.lists.ServedList.{ServedList}
 use Rattle.board.specs.declared.Record.{Record}
 use Rattle.board.specs.Record.{yesNo, isNumbered, numberOr, isRegular, sessionOf, recordOf}
 use Rattle.board.specs.Calls.{keptList, listedRecord, RecordListed}

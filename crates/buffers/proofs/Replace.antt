@@ -1,12 +1,10 @@
 -- Laws of a range that is read and of one that is replaced, at any offset and of any size.
 use mathlib.Core.Path.{_≡_, refl, sym, ap, _∙_, subst}
-use mathlib.Core.List.{List, [], _∷_, _++_}
+use mathlib.Core.List.{List, _++_}
 use Prim.Native.Nat.{ℕ, _+_, _-_, _≤_, _<_}
-use native.Mathlib.Nat.{zero-add, suc-add}
 use native.Mathlib.Omega.{arith}
-use lib.ListN.{length, getD, set, take, drop, replicate, length-replicate, take-append-drop, length-append, length-drop, List·getD-append}
+use lib.ListN.{length, getD, take, drop, replicate, length-replicate, take-append-drop, length-append, length-drop, List·getD-append}
 use lib.Seq.{drop-drop, length-take-le, take-at, drop-at, drop-append-add, getD-append-add, getD-take, getD-drop}
-use borrow.Author.Fill.{fill-more}
 use borrow.Rule.Slice.PartMut.{putMid, midOf, mid-len}
 use Rattle.buffers.specs.Ranges.{replace, range}
 
@@ -92,33 +90,3 @@ module _ (at : ℕ) (ys xs : List ℕ) (fits : at + length ys ≤ length xs) whe
           ∙ drop-append-add (take at xs) (ys ++ drop (at + length ys) xs) (length zs)
           ∙ drop-at ys (drop (at + length ys) xs) (length zs) (sym e)
           ∙ ap (λ (k : ℕ). drop (at + k) xs) (sym e)
-
--- ---- one value, element after element
-
--- a store past the front of a list
-set-append-add : (xs ys : List ℕ) (i a : ℕ) → set (xs ++ ys) (length xs + i) a ≡ xs ++ set ys i a
-set-append-add [] ys i a = ap (λ (n : ℕ). set ys n a) (zero-add i)
-set-append-add (x ∷ xs) ys i a =
-    ap (λ (n : ℕ). set (x ∷ (xs ++ ys)) n a) (suc-add (length xs) i) ∙ ap (λ (t : List ℕ). x ∷ t) (set-append-add xs ys i a)
-
--- i elements replaced by one value, as a front and the rest
-replaced-fill : (at i v : ℕ) (xs : List ℕ)
-    → replace at (replicate i v) xs ≡ take at xs ++ (replicate i v ++ drop i (drop at xs))
-replaced-fill at i v xs =
-    ap (λ (t : List ℕ). take at xs ++ (replicate i v ++ t))
-    (ap (λ (n : ℕ). drop (at + n) xs) (length-replicate i v) ∙ sym (drop-drop i at xs))
-
--- none
-pub replaced-none : (at v : ℕ) (xs : List ℕ) → xs ≡ replace at (replicate 0 v) xs
-replaced-none at v xs = sym (replaced-fill at 0 v xs ∙ take-append-drop at xs)
-
--- one element more
-pub replaced-more : (at i v : ℕ) (xs : List ℕ) → at + i < length xs
-    → set (replace at (replicate i v) xs) (at + i) v ≡ replace at (replicate (i + 1) v) xs
-replaced-more at i v xs h =
-    ap (λ (t : List ℕ). set t (at + i) v) (replaced-fill at i v xs)
-    ∙ ap (λ (n : ℕ). set (take at xs ++ (replicate i v ++ drop i (drop at xs))) (n + i) v)
-    (sym (length-take-le at xs (omega arith)))
-    ∙ set-append-add (take at xs) (replicate i v ++ drop i (drop at xs)) i v
-    ∙ ap (λ (t : List ℕ). take at xs ++ t) (fill-more i v (drop at xs) (rw length-drop (omega arith)))
-    ∙ sym (replaced-fill at (i + 1) v xs)

@@ -1,16 +1,15 @@
 -- A list of marks in one call: the claims stand in specs/MarkList.antt.
 use mathlib.Core.Path.{_≡_, refl, sym, ap, subst, _∙_}
-use mathlib.Core.Bool.{Bool, true, false, cond, not, _&&_, _||_, false≢true}
+use mathlib.Core.Bool.{Bool, true, false, cond, not, false≢true}
 use mathlib.Core.List.{List, [], _∷_}
 use mathlib.Core.Logic.{_⊎_, inl, inr, ⊎-elim}
 use Prim.Native.Nat.{ℕ, zero, suc, _+_, _-_, _*_, _/_, _%_, _≤_, _<_}
 use native.Mathlib.Omega.{arith}
-use lib.Dec.{leb, ltb, eqb}
-use lib.ListN.{length, getD, replicate, length-replicate}
+use lib.Dec.{leb, eqb}
+use lib.ListN.{length, getD, replicate}
 use borrow.Author.Tests.{le-leb, le-ltb, lt-ltb, eq-eqb, ne-eqb, eqb-false, not-false}
 use Rattle.units.proofs.Cases.{decided}
 use Rattle.buffers.specs.Ranges.{replace}
-use Rattle.buffers.proofs.Replace.{replace-length}
 use Rattle.session.specs.declared.Session.{Session}
 use Rattle.session.specs.declared.Counts.{Counts}
 use Rattle.session.specs.Machine.{Setup, Machine, lent, holding}
@@ -29,14 +28,14 @@ use Rattle.marklist.specs.declared.ListAnswer.{ListAnswer}
 use Rattle.marklist.specs.declared.ListAnswer.the-variants.{Marked, Unsound, OtherVersion, Suspended, Windowless, Malformed, Outside}
 use Rattle.marklist.specs.MarkList.{Pair, pairsOf, malformed, firstOutside, answerFor, listCode, namesPair, placeNamed, markPairs, listed, listedIn, afterList}
 use Rattle.marklist.proofs.InPairs.{inside-front}
+use Rattle.marklist.proofs.Reaching.{pairs-marked}
 use Rattle.marklist.proofs.Taken.{Taken, taken, answer-taken, within-marks, list-left, list-answer, each-check, pairs-code}
 use Rattle.mailbox.specs.Commands.{Outcome, numbered}
 use Rattle.mailbox.specs.Table.{from}
 use Rattle.mailbox.specs.Mediator.{commandAt, reasonOf, reasonIn, answerTo, mediate}
-use Rattle.mailbox.proofs.Mediating.{mediate-as, unsound-as, carried}
-use Rattle.invariants.specs.MarkList.{answerCode, ListLeaves, ListRefused, isListed, ListMarks, numbersOf, Single, responseTo, afterAll, AllSucceed, FailAt, NeverRepeat, Names, ListAsCommands, ListRefusedAlike, ListAtVersion, ListMalformed}
+use Rattle.mailbox.proofs.Mediating.{mediate-as, carried}
+use Rattle.invariants.specs.MarkList.{answerCode, ListLeaves, ListRefused, ListMarks, numbersOf, Single, responseTo, afterAll, AllSucceed, FailAt, NeverRepeat, Names, ListAsCommands, ListRefusedAlike, ListAtVersion, ListMalformed}
 use Rattle.invariants.proofs.Kept.{command-keeps}
-use Rattle.invariants.proofs.Marks.{placed}
 use Rattle.invariants.proofs.Succeeding.{accepted}
 
 -- ---- what it leaves
@@ -71,24 +70,6 @@ unfolding listed
 list-marked setup list m a = rw a
 
 -- block by block
-either : (a b : Bool) (x y : ℕ) → cond b x (cond a x y) ≡ cond (a || b) x y
-either true true x y = refl
-either true false x y = refl
-either false b x y = refl
-
-pairs-marked : (place : ℕ) (pairs : List Pair) (marks : List ℕ) → length marks ≡ 64 → firstOutside 64 place pairs ≡ Marked → (block : ℕ)
-    → getD (markPairs pairs marks) block 0 ≡ cond (isListed pairs block) 1 (getD marks block 0)
-pairs-marked place [] marks long e block = refl
-pairs-marked place (pair ∷ pairs) marks long e block =
-    let f = inside-front 64 place pair pairs e in
-    let count = length-replicate (pair .count) dirty in
-    let within : pair .block + length (replicate (pair .count) dirty) ≤ length marks = omega (arith, f .0, long, count) in
-    let after = replace (pair .block) (replicate (pair .count) dirty) marks in
-    let here : pair .block + pair .count ≤ length marks = omega (arith, f .0, long) in
-    pairs-marked (suc place) pairs after (replace-length (pair .block) (replicate (pair .count) dirty) marks within ∙ long) (f .1) block
-    ∙ ap (λ (n : ℕ). cond (isListed pairs block) 1 n) (placed (pair .block) (pair .count) dirty block marks here)
-    ∙ either (leb (pair .block) block && ltb block (pair .block + pair .count)) (isListed pairs block) 1 (getD marks block 0)
-
 pub list-marks : ListMarks
 list-marks setup list m long e block =
     let a = answer-marked setup list m e in

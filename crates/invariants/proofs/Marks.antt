@@ -3,15 +3,13 @@ use mathlib.Core.Path.{_≡_, refl, sym, ap, _∙_, subst}
 use mathlib.Core.Bool.{Bool, true, false, cond, not, _&&_, _||_, true≢false}
 use mathlib.Core.List.{List}
 use mathlib.Core.Logic.{⊎-elim}
-use Prim.Native.Nat.{ℕ, _+_, _-_, _≤_, _<_}
+use Prim.Native.Nat.{ℕ, _+_, _-_, _≤_}
 use native.Mathlib.Nat.{le-trans}
 use native.Mathlib.Omega.{arith}
 use lib.Dec.{leb, ltb, eqb}
-use lib.ListN.{length, getD, replicate, length-replicate, getD-replicate}
-use borrow.Author.Tests.{le-leb, lt-leb, lt-ltb, le-ltb, not-false}
-use Rattle.units.proofs.Cases.{below-or}
+use lib.ListN.{length, getD, replicate}
+use borrow.Author.Tests.{not-false}
 use Rattle.buffers.specs.Ranges.{replace}
-use Rattle.buffers.proofs.Replace.{replace-before, replace-inside, replace-after}
 use Rattle.session.specs.declared.Session.{Session}
 use Rattle.session.specs.declared.Window.the-variants.{Read, Write}
 use Rattle.session.specs.Events.{controlLost, setBits, clearBits}
@@ -26,6 +24,7 @@ use Rattle.refusals.specs.declared.Reason.the-variants.{Accepted}
 use Rattle.refusals.specs.Refusals.{blocksNamed, flushMarks, reasonFor}
 use Rattle.refusals.proofs.Accepting.{passed, named-within}
 use Rattle.registers.specs.Registers.{commandOf, number}
+use Rattle.marklist.proofs.Reaching.{placed}
 use Rattle.mailbox.specs.Commands.{Outcome, numbered, numberedIn, marked}
 use Rattle.mailbox.specs.Table.{Command, from}
 use Rattle.mailbox.specs.Mediator.{commandAt, reasonOf, reasonIn, mediate}
@@ -34,30 +33,7 @@ use Rattle.invariants.specs.Pending.{drops}
 use Rattle.invariants.specs.Marks.{isNamed, MarksAsSaid, SameWindow, SameMarks, MarksStay, AccessStays, NoWindow, WindowAsSaid}
 use Rattle.invariants.proofs.Kept.{sounds-unless}
 
--- ---- the marks, block by block
-pub placed : (start count mark block : ℕ) (marks : List ℕ) → start + count ≤ length marks
-    → getD (replace start (replicate count mark) marks) block 0 ≡ cond (leb start block && ltb block (start + count)) mark (getD marks block 0)
-placed start count mark block marks fits =
-    let long = length-replicate count mark in
-    let within : start + length (replicate count mark) ≤ length marks = omega (arith, long, fits) in
-    ⊎-elim
-    (λ (b : block < start). rw (lt-leb start block b) (replace-before start (replicate count mark) marks within block 0 b))
-    (λ (a : start ≤ block).
-    ⊎-elim
-    (λ (b : block < start + count).
-    rw (le-leb start block a, lt-ltb block (start + count) b)
-    (ap (λ (i : ℕ). getD (replace start (replicate count mark) marks) i 0) (sym (split a))
-    ∙ replace-inside start (replicate count mark) marks within (block - start) 0 (omega (arith, long, a, b))
-    ∙ getD-replicate count (block - start) mark 0 (omega arith)))
-    (λ (b : start + count ≤ block).
-    rw (le-leb start block a, le-ltb block (start + count) b) (replace-after start (replicate count mark) marks within block 0 (omega (arith, long, b))))
-    (below-or block (start + count)))
-    (below-or block start)
-  where
-    split : start ≤ block → start + (block - start) ≡ block
-    split a = omega arith
-
--- the named blocks as the claim has them
+-- ---- the marks, block by block: the named blocks as the claim has them
 chosen-start : (t : Bool) (x y : BlockRange) → cond t x y .start ≡ cond t (x .start) (y .start)
 chosen-start true x y = refl
 chosen-start false x y = refl

@@ -1,10 +1,9 @@
 -- A list of marks in one call, with the papers' own numbers, and beside the single commands: document 02, Ticket 4. Proved in proofs/MarkList.antt.
 use mathlib.Core.Path.{_≡_}
-use mathlib.Core.Bool.{Bool, true, false, cond, _&&_, _||_}
+use mathlib.Core.Bool.{Bool, true, false, cond}
 use mathlib.Core.List.{List, [], _∷_}
 use mathlib.Core.Logic.{_⊎_}
-use Prim.Native.Nat.{ℕ, zero, suc, _+_, _%_, _≤_, _<_}
-use lib.Dec.{leb, ltb}
+use Prim.Native.Nat.{ℕ, zero, suc, _%_, _≤_, _<_}
 use lib.ListN.{length, getD}
 use Rattle.session.specs.declared.Previous.{Previous}
 use Rattle.session.specs.declared.Previous.the-variants.{Number}
@@ -13,7 +12,7 @@ use Rattle.session.specs.Record.{withPrevious, withCounted}
 use Rattle.soundness.specs.Soundness.{soundIn}
 use Rattle.registers.specs.Registers.{commandOf, sequenceOf, number}
 use Rattle.refusals.specs.Refusals.{isPrevious}
-use Rattle.marklist.specs.MarkList.{Pair, pairsOf, listCode, namesPair, placeNamed, listedIn, afterList}
+use Rattle.marklist.specs.MarkList.{Pair, pairsOf, listCode, namesPair, placeNamed, isListed, listedIn, afterList}
 use Rattle.mailbox.specs.Mediator.{mediate}
 
 -- the code that a list is answered with, and whether it names a pair, by its place
@@ -40,11 +39,6 @@ ListLeaves =
 -- "If one would fail, nothing is marked": a list that is refused, for whatever reason, changes nothing
 abbrev pub ListRefused : Type 0
 ListRefused = (setup : Setup) (list : List ℕ) (m : Machine) → (answerCode setup list m ≡ 1 → ⊥) → afterList setup list m ≡ m
-
--- a block that a pair names, "window block and count"
-abbrev pub isListed : List Pair → ℕ → Bool
-isListed [] block = false
-isListed (pair ∷ pairs) block = (leb (pair .block) block && ltb block (pair .block + pair .count)) || isListed pairs block
 
 -- "marks them all dirty" (1), and every other block has the mark that it had; of 64 marks, which an array has
 abbrev pub ListMarks : Type 0

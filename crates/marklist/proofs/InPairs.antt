@@ -7,13 +7,11 @@ use native.Mathlib.Nat.{le-trans}
 use native.Mathlib.Omega.{arith}
 use borrow.Author.Tests.{ltb-false, leb-true, le-leb, eqb-false}
 use lib.Dec.{leb, ltb, eqb}
-use lib.ListN.{length, getD, drop, replicate, length-drop}
+use lib.ListN.{length, getD, drop, length-drop}
 use lib.Seq.{drop-cons}
-use Rattle.buffers.specs.Ranges.{replace}
-use Rattle.session.specs.Marks.{dirty}
 use Rattle.marklist.specs.declared.ListAnswer.{ListAnswer}
 use Rattle.marklist.specs.declared.ListAnswer.the-variants.{Marked, Outside}
-use Rattle.marklist.specs.MarkList.{Pair, pairsOf, malformed, firstOutside, markPairs}
+use Rattle.marklist.specs.MarkList.{Pair, pairsOf, malformed, firstOutside}
 
 -- a list that is not malformed is short
 pub formed-few : (numbers : ℕ) → malformed numbers ≡ false → numbers ≤ 128
@@ -28,18 +26,19 @@ formed-few numbers e =
     neither false b e = (refl, e)
 
 -- the list from a place on: the pair there, and the rest
-pub pair-at : (list : List ℕ) (at : ℕ) → at + 1 < length list
-    → pairsOf (drop at list) ≡ record { block = getD list at 0; count = getD list (at + 1) 0 } ∷ pairsOf (drop (at + 2) list)
-pair-at list at h =
-    ap pairsOf (drop-cons list at 0 (omega arith)
-    ∙ ap (λ (n : ℕ). getD list at 0 ∷ drop n list) one
-    ∙ ap (λ (t : List ℕ). getD list at 0 ∷ t) (drop-cons list (at + 1) 0 h))
-    ∙ ap (λ (n : ℕ). record { block = getD list at 0; count = getD list (at + 1) 0 } ∷ pairsOf (drop n list)) two
+pub pair-at : (list : List ℕ) (place : ℕ) → 2 * place + 1 < length list
+    → pairsOf (drop (2 * place) list)
+    ≡ record { block = getD list (2 * place) 0; count = getD list (2 * place + 1) 0 } ∷ pairsOf (drop (2 * (place + 1)) list)
+pair-at list place h =
+    ap pairsOf (drop-cons list (2 * place) 0 (omega arith)
+    ∙ ap (λ (n : ℕ). getD list (2 * place) 0 ∷ drop n list) one
+    ∙ ap (λ (t : List ℕ). getD list (2 * place) 0 ∷ t) (drop-cons list (2 * place + 1) 0 h))
+    ∙ ap (λ (n : ℕ). record { block = getD list (2 * place) 0; count = getD list (2 * place + 1) 0 } ∷ pairsOf (drop n list)) two
   where
-    one : suc at ≡ at + 1
+    one : suc (2 * place) ≡ 2 * place + 1
     one = omega arith
 
-    two : suc (at + 1) ≡ at + 2
+    two : suc (2 * place + 1) ≡ 2 * (place + 1)
     two = omega arith
 
 -- the answer for the pairs from a place on, by the first of them
@@ -47,15 +46,12 @@ answer-at : (size place : ℕ) (list : List ℕ) → 2 * place + 1 < length list
     ≡ cond (not (leb (getD list (2 * place) 0 + getD list (2 * place + 1) 0) size)) (Outside place)
     (firstOutside size (place + 1) (pairsOf (drop (2 * (place + 1)) list)))
 answer-at size place list h =
-    ap (firstOutside size place) (pair-at list (2 * place) h)
-    ∙ (λ k. cond (not (leb (getD list (2 * place) 0 + getD list (2 * place + 1) 0) size)) (Outside place)
-    (firstOutside size (one k) (pairsOf (drop (two k) list))))
+    ap (firstOutside size place) (pair-at list place h)
+    ∙ ap (λ (n : ℕ). cond (not (leb (getD list (2 * place) 0 + getD list (2 * place + 1) 0) size)) (Outside place)
+    (firstOutside size n (pairsOf (drop (2 * (place + 1)) list)))) one
   where
     one : suc place ≡ place + 1
     one = omega arith
-
-    two : 2 * place + 2 ≡ 2 * (place + 1)
-    two = omega arith
 
 pub answer-outside : (size place : ℕ) (list : List ℕ) → 2 * place + 1 < length list
     → leb (getD list (2 * place) 0 + getD list (2 * place + 1) 0) size ≡ false
@@ -94,26 +90,12 @@ inside-front size place pair pairs e =
     let f = front-inside (leb (pair .block + pair .count) size) place (firstOutside size (suc place) pairs) e in
     (leb-true (pair .block + pair .count) size (f .0), f .1)
 
--- the pairs from a place on, none of them outside: the first, and what is left to mark after it
-pub marked-at : (size place : ℕ) (list marks : List ℕ) → 2 * place + 1 < length list → firstOutside size place (pairsOf (drop (2 * place) list)) ≡ Marked
-    → (getD list (2 * place) 0 + getD list (2 * place + 1) 0 ≤ size)
-    × (firstOutside size (place + 1) (pairsOf (drop (2 * (place + 1)) list)) ≡ Marked)
-    × (markPairs (pairsOf (drop (2 * place) list)) marks
-    ≡ markPairs (pairsOf (drop (2 * (place + 1)) list)) (replace (getD list (2 * place) 0) (replicate (getD list (2 * place + 1) 0) dirty) marks))
-marked-at size place list marks h e =
-    let front = sym (ap (firstOutside size place) (pair-at list (2 * place) h)) ∙ e in
-    let f = inside-front size place (record { block = getD list (2 * place) 0; count = getD list (2 * place + 1) 0 }) (pairsOf (drop (2 * place + 2) list)) front in (
-      f .0,
-      (λ k. firstOutside size (sym one k) (pairsOf (drop (sym two k) list))) ∙ f .1,
-      ap (λ (pairs : List Pair). markPairs pairs marks) (pair-at list (2 * place) h)
-          ∙ ap (λ (n : ℕ). markPairs (pairsOf (drop n list)) (replace (getD list (2 * place) 0) (replicate (getD list (2 * place + 1) 0) dirty) marks)) two,
-    )
-  where
-    one : suc place ≡ place + 1
-    one = omega arith
-
-    two : 2 * place + 2 ≡ 2 * (place + 1)
-    two = omega arith
+-- the pairs from a place on, none of them outside: nor are those from the next on
+pub inside-at : (size place : ℕ) (list : List ℕ) → 2 * place + 1 < length list → firstOutside size place (pairsOf (drop (2 * place) list)) ≡ Marked
+    → (getD list (2 * place) 0 + getD list (2 * place + 1) 0 ≤ size) × (firstOutside size (place + 1) (pairsOf (drop (2 * (place + 1)) list)) ≡ Marked)
+inside-at size place list h e =
+    let f = front-inside (leb (getD list (2 * place) 0 + getD list (2 * place + 1) 0) size) place _ (sym (answer-at size place list h) ∙ e) in
+    (leb-true (getD list (2 * place) 0 + getD list (2 * place + 1) 0) size (f .0), f .1)
 
 -- what lies in a window lies in a larger one
 pub inside-larger : (size most place : ℕ) (pairs : List Pair) → size ≤ most → firstOutside size place pairs ≡ Marked → firstOutside most place pairs ≡ Marked

@@ -1,2 +1,3 @@
 pub mod InPairs
+pub mod Reaching
 pub mod Taken

@@ -1,1 +1,2 @@
 pub mod MarkList
+pub mod Reach

@@ -1,6 +1,6 @@
 -- A list of marks in one call: document 02, Ticket 4.
 use Prim.Native.Nat.{ℕ, suc, _+_, _/_, _%_}
-use mathlib.Core.Bool.{Bool, true, false, cond, not, _||_}
+use mathlib.Core.Bool.{Bool, true, false, cond, not, _&&_, _||_}
 use mathlib.Core.List.{List, [], _∷_}
 use lib.Dec.{leb, ltb, eqb}
 use lib.ListN.{length, replicate}
@@ -84,6 +84,11 @@ answerFor sound list s =
 abbrev pub markPairs : List Pair → List ℕ → List ℕ
 markPairs [] marks = marks
 markPairs (pair ∷ pairs) marks = markPairs pairs (replace (pair .block) (replicate (pair .count) dirty) marks)
+
+-- a block that a pair names, "window block and count"
+abbrev pub isListed : List Pair → ℕ → Bool
+isListed [] block = false
+isListed (pair ∷ pairs) block = (leb (pair .block) block && ltb block (pair .block + pair .count)) || isListed pairs block
 
 -- "If one would fail, nothing is marked"; "No sequence numbers are used or remembered"
 abbrev pub sessionFor : ListAnswer → List ℕ → Session → Session

@@ -1,14 +1,16 @@
 // The pairs of a list: checked, and marked.
 use crate::ListAnswer;
 use session::DIRTY;
+use soundness::larger;
 ghost use mathlib.Core.Path.{_≡_};
-ghost use Prim.Native.Nat.{_+_, _≤_};
-ghost use lib.Dec.{leb};
-ghost use lib.ListN.{length, replicate};
-ghost use Rattle.buffers.specs.Ranges.{replace};
+ghost use mathlib.Core.Bool.{cond};
+ghost use Prim.Native.Nat.{ℕ, suc, _+_, _≤_, _<_};
+ghost use lib.Dec.{leb, ltb};
+ghost use lib.ListN.{length, getD};
 ghost use Rattle.session.specs.Marks.{dirty};
 ghost use Rattle.marklist.specs.declared.ListAnswer.the-variants.{Marked};
 ghost use Rattle.marklist.specs.MarkList.{pairsOf, firstOutside, markPairs};
+ghost use Rattle.marklist.specs.Reach.{endsFrom, noEnds, farthest};
 
 // The first pair that does not lie in a window of this size, or that all may be marked.
 pub(crate) fn first_outside(list: &[u16], size: u16) -> ListAnswer
@@ -34,35 +36,53 @@ fn is_inside(block: u16, count: u16, size: u16) -> bool
     (block as u32) + (count as u32) <= (size as u32)
 }
 
-// The marks with those of all pairs dirty.
+// The marks with those of all pairs dirty: first how far the pairs reach, then block after block, so that a pair of
+// many blocks costs no more than one of a single block.
 pub(crate) fn mark_pairs(marks: [u8; 64], list: &[u16]) -> [u8; 64]
     requires { ⌜ firstOutside 64 0 (pairsOf (now list)) ≡ Marked ⌝ }
     ensures { λ r. ⌜ r ≡ markPairs (pairsOf (now (list .entry))) marks ⌝ }
 {
+    let ends = farthest_ends(list);
+    mark_reached(marks, ends)
+}
+
+// For each block the farthest end of the pairs that begin there, 0 where none does. A pair of no blocks may begin at
+// block 64.
+fn farthest_ends(list: &[u16]) -> [u8; 65]
+    requires { ⌜ firstOutside 64 0 (pairsOf (now list)) ≡ Marked ⌝ }
+    ensures { λ r. ⌜ r ≡ endsFrom (pairsOf (now (list .entry))) noEnds ⌝ }
+{
     let pairs = list.len() / 2;
-    let mut next = marks;
+    let mut ends = [0; 65];
     let mut place = 0;
     while place < pairs {
         let at = 2 * place;
-        let marked = mark_pair(next, list[at], list[at + 1]);
-        next = marked;
+        let block = list[at] as usize;
+        let end = list[at] + list[at + 1];
+        ends[block] = larger(ends[block], end as u8);
         place += 1;
+    }
+    ends
+}
+
+// The blocks dirty that a pair reaches which begins there or before.
+fn mark_reached(marks: [u8; 64], ends: [u8; 65]) -> [u8; 64]
+    ensures { λ r. ⌜ ((block : ℕ) → block < 64 → getD r block 0 ≡ cond (ltb block (farthest (suc block) ends)) dirty (getD marks block 0)) ⌝ }
+{
+    let mut next = marks;
+    let mut reach: u8 = 0;
+    let mut at = 0;
+    while at < 64 {
+        reach = larger(reach, ends[at]);
+        next[at] = dirty_if(at < reach as usize, marks[at]);
+        at += 1;
     }
     next
 }
 
-// The marks with those of one pair dirty. They are counted once, when all pairs are marked.
-fn mark_pair(marks: [u8; 64], block: u16, count: u16) -> [u8; 64]
-    requires { ⌜ block + count ≤ 64 ⌝ }
-    ensures { λ r. ⌜ r ≡ replace block (replicate count dirty) marks ⌝ }
+// A mark, or dirty in its place.
+fn dirty_if(reached: bool, mark: u8) -> u8
+    ensures { λ r. ⌜ r ≡ cond reached dirty mark ⌝ }
 {
-    let mut next = marks;
-    let start = block as usize;
-    let end = start + count as usize;
-    let mut at = start;
-    while at < end {
-        next[at] = DIRTY;
-        at += 1;
-    }
-    next
+    if reached { DIRTY } else { mark }
 }

@@ -5,6 +5,7 @@
 mod marks;
 mod pending_work;
 
+pub use marks::larger;
 use marks::look_at;
 pub use marks::with_marks;
 pub use pending_work::PendingWork;

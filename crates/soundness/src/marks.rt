@@ -68,7 +68,8 @@ fn is_within(largest: u8, end: u8, markable: u16) -> bool
     (end as u16) <= markable
 }
 
-fn larger(a: u8, b: u8) -> u8
+// The larger of two, without a branch in the machine code.
+pub fn larger(a: u8, b: u8) -> u8
     ensures { λ r. ⌜ r ≡ max a b ⌝ }
 {
     if a < b { b } else { a }

@@ -3,7 +3,6 @@ use mathlib.Core.Path.{sym, ap, _∙_}
 use borrow.Author.Needs.{needs}
 use borrow.Author.Tests.{not-true, not-false}
 use Rattle.session.specs.declared.Session.{Session}
-use Rattle.marklist.specs.declared.Listed.{Listed}
 use Rattle.marklist.specs.MarkList.{listed}
 use Rattle.board.specs.Calls.{board, keptList}
 use Rattle.board.proofs.Listed.{list-irregular, list-regular}
