@@ -208,7 +208,7 @@ uint32_t hiomap_command(hiomap_record *record, uint8_t (*registers)[HIOMAP_REGIS
  *   record     the session; its marks and their numbers are changed in place. A refusal changes no byte of it
  *   list       pairs of a window block and a number of blocks, at most 64 of them: `length` is twice their number.
  *              A pair's blocks all lie in the window, in whole-number sums; 0 blocks are checked and mark nothing;
- *              pairs may overlap. No pairs are a list too: a length of 0, and `start` is not null
+ *              pairs may overlap. The empty list is one too: a length of 0, and `start` not null
  *   lpc        the window's first LPC block (B), and
  *   timeout    the suggested timeout (T), as hiomap_command has them
  *   flash      the length of the whole flash image, in bytes

@@ -86,6 +86,8 @@ static void print_pending(void) {
         printf("pending %u blocks, %u actions\n", (unsigned)work.blocks, (unsigned)work.actions);
 }
 
+static const uint16_t many[2 * (HIOMAP_MOST_PAIRS + 1)]; /* pairs of window block 0 and no blocks */
+
 /* A host that has saved many places at once hands over all of its marks: pairs of window block and number of blocks. */
 static void mark_list(const uint16_t *pairs, size_t numbers) {
     hiomap_list_reply answer = hiomap_mark_list(&session, (hiomap_const_numbers){pairs, numbers}, LPC_BLOCK, TIMEOUT,
@@ -162,6 +164,8 @@ int main(void) {
     MARK_LIST(0, 1, 1, 2, 0, 3);      /* the second pair ends past the window, and so does the third: none is marked */
     print_pending();
     MARK_LIST(0, 1, 1);               /* an odd length: PARAM_ERROR, and no pair is named */
+    mark_list(many, 2 * HIOMAP_MOST_PAIRS);       /* the most pairs; these have no blocks, and mark nothing */
+    mark_list(many, 2 * (HIOMAP_MOST_PAIRS + 1)); /* one pair too many */
     MARK_LIST(0, 1, 1, 1, 0, 2, 2, 0); /* both blocks, each twice; 2, 0 lies at the window's end and marks nothing */
     print_pending();
     COMMAND(10, 13, 0, 0, 1, 0);      /* SEQ_ERROR: 13 is still the previous number, for the list has none */

@@ -182,4 +182,6 @@ RecordListed =
     × (listedRecord setup flash memory list h .held .previous ≡ h .previous)
     × ((listedRecord setup flash memory list h .answer .code ≡ 1 → ⊥) → listedRecord setup flash memory list h .held ≡ h)
     × (isRegular h ≡ false → listedRecord setup flash memory list h .answer ≡ record { code = 4; named = false; place = 0 })
-    × (isRegular h ≡ true → listedRecord setup flash memory list h .answer ≡ listReplyOf (listed setup flash memory list (sessionOf h) .answer))
+    × (isRegular h ≡ true
+    → listedRecord setup flash memory list h .answer
+    ≡ (let a = listed setup flash memory list (sessionOf h) .answer in record { code = listCode a; named = namesPair a; place = placeNamed a }))

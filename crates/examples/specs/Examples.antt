@@ -553,8 +553,9 @@ example16 =
     ∷ []
 
 -- Ticket 4, a list of marks: "Refusals: SYSTEM_ERROR, version not 2, suspended, no write window, odd length or more than 64 pairs, first bad pair, in that
--- order, with codes 4, 2, 6, 7, 2, 2"; "nothing is marked" then, and the first of two bad pairs is named, also after good ones. No pairs are refused for the
--- session and else fine, and so are 64, pairs of count 0 up to the window's end, and pairs that overlap; erased blocks become dirty. The previous number stays
+-- order, with codes 4, 2, 6, 7, 2, 2"; "nothing is marked" then, and the first of two bad pairs is named, also after good ones. The empty list is refused for the
+-- session, and else it is fine; so are 64 pairs, pairs of count 0 up to the window's end, and pairs that overlap; erased blocks become dirty. The previous number
+-- stays
 abbrev pub example17 : Example
 example17 =
     markList (0 ∷ 1 ∷ []) shows (unnamed 2 ∷ [])

@@ -37,7 +37,7 @@ use Rattle.invariants.specs.Kept.{FreshSound, CommandKeeps, ListKeeps, A
 use Rattle.mailbox.proofs.Front.{size-fits}
 use Rattle.invariants.proofs.MarksKept.{marked-sound, list-sound}
 
-pub write-is : (w : Window) → isWrite w ≡ true → w ≡ Write
+write-is : (w : Window) → isWrite w ≡ true → w ≡ Write
 write-is Closed e = absurd (false≢true e)
 write-is Read e = absurd (false≢true e)
 write-is Write e = refl

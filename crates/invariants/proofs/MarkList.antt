@@ -32,9 +32,9 @@ use Rattle.marklist.proofs.Reaching.{pairs-marked}
 use Rattle.marklist.proofs.Taken.{Taken, taken, answer-taken, within-marks, list-left, list-answer, each-check, pairs-code}
 use Rattle.mailbox.specs.Commands.{Outcome, numbered}
 use Rattle.mailbox.specs.Table.{from}
-use Rattle.mailbox.specs.Mediator.{commandAt, reasonOf, reasonIn, answerTo, mediate}
+use Rattle.mailbox.specs.Mediator.{commandAt, reasonOf, reasonIn, answerTo, mediate, response}
 use Rattle.mailbox.proofs.Mediating.{mediate-as, carried}
-use Rattle.invariants.specs.MarkList.{answerCode, ListLeaves, ListRefused, ListMarks, numbersOf, Single, responseTo, afterAll, AllSucceed, FailAt, NeverRepeat, Names, ListAsCommands, ListRefusedAlike, ListAtVersion, ListMalformed}
+use Rattle.invariants.specs.MarkList.{answerCode, ListLeaves, ListRefused, ListMarks, numbersOf, Single, afterSent, AllSucceed, FailAt, NeverRepeat, Names, ListAsCommands, ListRefusedAlike, ListAtVersion, ListMalformed, ListUnnamed}
 use Rattle.invariants.proofs.Kept.{command-keeps}
 use Rattle.invariants.proofs.Succeeding.{accepted}
 
@@ -102,8 +102,8 @@ record Ready (setup : Setup) (m : Machine) : Type 0 where
   writes : isWrite (m .session .window) ≡ true
 
 -- what a MARK_DIRTY leaves at version 2
-abbrev step : List ℕ → Machine → Machine
-step registers m =
+abbrev markedBy : List ℕ → Machine → Machine
+markedBy registers m =
     holding (withMarks (replace (number 2 0 registers) (replicate (number 2 2 registers) dirty) (m .session .marks)) (numbered (m .session) registers)) m
 
 module _ (setup : Setup) (registers : List ℕ) (m : Machine) (is : commandOf registers ≡ 7) (two : m .session .version ≡ 2) where
@@ -129,7 +129,7 @@ module _ (setup : Setup) (registers : List ℕ) (m : Machine) (is : commandOf re
         sym inside-is ∙ not-false (blocksNamed (m .session) registers .inside) (p .argued),
       )
 
-  leaves : reasonIn setup registers m ≡ Accepted → mediate setup registers m .machine ≡ step registers m
+  leaves : reasonIn setup registers m ≡ Accepted → mediate setup registers m .machine ≡ markedBy registers m
   unfolding commandAt
   leaves a =
       ap (λ (o : Outcome). o .machine) (carried setup registers m 7 is a)
@@ -137,10 +137,6 @@ module _ (setup : Setup) (registers : List ℕ) (m : Machine) (is : commandOf re
     where
       named : blocksNamed (numbered (m .session) registers) registers ≡ record { inside = inside; start = number 2 0 registers; count = number 2 2 registers }
       named = rw two refl
-
-  accepted-if : Ready setup m → isPrevious (m .session .previous) (sequenceOf registers) ≡ false → inside ≡ true → reasonIn setup registers m ≡ Accepted
-  unfolding reasonFor
-  accepted-if r new e = reason-is ∙ rw (r .sounds, new, two, r .awake, r .writes, e) refl
 
   -- the response, by what the checks find
   abbrev repeated : Bool
@@ -156,7 +152,7 @@ module _ (setup : Setup) (registers : List ℕ) (m : Machine) (is : commandOf re
   code-is WindowlessCommand = rw two refl
   code-is Argument = refl
 
-  responds-as : responseTo setup registers m ≡ codeFor 2 (reasonFor (soundIn setup m) (m .session) registers true WriteWindow (not inside))
+  responds-as : response setup registers m ≡ codeFor 2 (reasonFor (soundIn setup m) (m .session) registers true WriteWindow (not inside))
   responds-as =
       ap (λ (o : Outcome). getD (o .registers) 13 0)
       (mediate-as setup registers m (reasonIn setup registers m) refl ∙ ap (λ (n : ℕ). answerTo (reasonIn setup registers m) (commandAt n) setup registers m) is)
@@ -164,7 +160,7 @@ module _ (setup : Setup) (registers : List ℕ) (m : Machine) (is : commandOf re
       ∙ ap (codeFor 2) (reason-is ∙ (λ k. reasonFor (soundIn setup m) (m .session) registers (known k) WriteWindow (not (inside-is k))))
 
   -- PARAM_ERROR is that of an argument: every check before has passed
-  argued : responseTo setup registers m ≡ 2 → Ready setup m × (inside ≡ false)
+  argued : response setup registers m ≡ 2 → Ready setup m × (inside ≡ false)
   unfolding reasonFor
   argued e =
       let a = check (not (soundIn setup m)) System _ (λ q. omega arith) (sym responds-as ∙ e) in
@@ -183,28 +179,28 @@ module _ (setup : Setup) (registers : List ℕ) (m : Machine) (is : commandOf re
       last true q = absurd (omega arith)
       last false q = refl
 
-  unsound-four : soundIn setup m ≡ false → responseTo setup registers m ≡ 4
+  unsound-four : soundIn setup m ≡ false → response setup registers m ≡ 4
   unfolding reasonFor
   unsound-four e = responds-as ∙ rw e refl
 
   module _ (sounds : soundIn setup m ≡ true) (new : repeated ≡ false) where
-    suspended-six : m .session .suspended ≡ true → responseTo setup registers m ≡ 6
+    suspended-six : m .session .suspended ≡ true → response setup registers m ≡ 6
     unfolding reasonFor
     suspended-six e = responds-as ∙ rw (sounds, new, e) refl
 
-    windowless-seven : m .session .suspended ≡ false → isWrite (m .session .window) ≡ false → responseTo setup registers m ≡ 7
+    windowless-seven : m .session .suspended ≡ false → isWrite (m .session .window) ≡ false → response setup registers m ≡ 7
     unfolding reasonFor
     windowless-seven e w = responds-as ∙ rw (sounds, new, e, w) refl
 
-    inside-one : m .session .suspended ≡ false → isWrite (m .session .window) ≡ true → inside ≡ true → responseTo setup registers m ≡ 1
+    inside-one : m .session .suspended ≡ false → isWrite (m .session .window) ≡ true → inside ≡ true → response setup registers m ≡ 1
     unfolding reasonFor
     inside-one e w i = responds-as ∙ rw (sounds, new, e, w, i) refl
 
-    outside-two : m .session .suspended ≡ false → isWrite (m .session .window) ≡ true → inside ≡ false → responseTo setup registers m ≡ 2
+    outside-two : m .session .suspended ≡ false → isWrite (m .session .window) ≡ true → inside ≡ false → response setup registers m ≡ 2
     unfolding reasonFor
     outside-two e w i = responds-as ∙ rw (sounds, new, e, w, i) refl
 
-  ready-next : Ready setup m → reasonIn setup registers m ≡ Accepted → Ready setup (step registers m)
+  ready-next : Ready setup m → reasonIn setup registers m ≡ Accepted → Ready setup (markedBy registers m)
   ready-next r a =
       record {
         sounds = subst (λ (n : Machine). soundAt setup (length (m .flash)) (length (m .memory)) (n .session) ≡ true) (leaves a) (command-keeps setup registers m (r .sounds));
@@ -239,10 +235,11 @@ module _ (setup : Setup) where
       let first = single .1 in
       let second = single .2 in
       let within = le-leb (number 2 0 registers + number 2 2 registers) (m .session .size) (omega (arith, f .0, first, second)) in
-      let a = accepted-if setup registers m is (r .two) r (new .0) within in (
-        inside-one setup registers m is (r .two) (r .sounds) (new .0) (r .awake) (r .writes) within,
+      let one = inside-one setup registers m is (r .two) (r .sounds) (new .0) (r .awake) (r .writes) within in
+      let a = accepted setup (m .session) registers (m .flash) (m .memory) one in (
+        one,
         subst (λ (n : Machine). AllSucceed setup sent n) (sym (leaves setup registers m is (r .two) a))
-            (inside-succeed pairs sent (step registers m) (suc place) (ready-next setup registers m is (r .two) r a) (single .3) (new .1) (f .1)),
+            (inside-succeed pairs sent (markedBy registers m) (suc place) (ready-next setup registers m is (r .two) r a) (single .3) (new .1) (f .1)),
       )
 
   -- the first pair that does not: its command is the first that fails
@@ -253,14 +250,15 @@ module _ (setup : Setup) where
   outside-fails (pair ∷ pairs) (registers ∷ sent) m place first r single new e =
       ⊎-elim
       (λ (t : leb (pair .block + pair .count) (m .session .size) ≡ true).
-      let a = accepted-if setup registers m is (r .two) r (new .0) (numbers ∙ t) in
+      let one = inside-one setup registers m is (r .two) (r .sounds) (new .0) (r .awake) (r .writes) (numbers ∙ t) in
+      let a = accepted setup (m .session) registers (m .flash) (m .memory) one in
       let rest = ap (λ (b : Bool). cond (not b) (Outside place) (firstOutside (m .session .size) (suc place) pairs)) (sym t) ∙ e in
       let later = first-least (m .session .size) (suc place) first pairs rest in
       let one-less : suc (first - suc place) ≡ first - place = omega arith in
       subst (λ (n : ℕ). FailAt n setup (registers ∷ sent) m) one-less (
-        inside-one setup registers m is (r .two) (r .sounds) (new .0) (r .awake) (r .writes) (numbers ∙ t),
+        one,
         subst (λ (n : Machine). FailAt (first - suc place) setup sent n) (sym (leaves setup registers m is (r .two) a))
-            (outside-fails pairs sent (step registers m) (suc place) first (ready-next setup registers m is (r .two) r a) (single .3) (new .1) rest),
+            (outside-fails pairs sent (markedBy registers m) (suc place) first (ready-next setup registers m is (r .two) r a) (single .3) (new .1) rest),
       ))
       (λ (t : leb (pair .block + pair .count) (m .session .size) ≡ false).
       let here = ap placeNamed (ap (λ (b : Bool). cond (not b) (Outside place) (firstOutside (m .session .size) (suc place) pairs)) (sym t) ∙ e) in
@@ -286,14 +284,14 @@ module _ (setup : Setup) where
       let rest = subst (λ (n : Machine). AllSucceed setup sent n) (leaves setup registers m (single .0) two a) (ok .1) in
       ap (λ (b : Bool). cond (not b) (Outside place) (firstOutside (m .session .size) (suc place) pairs))
       ((λ k. leb (sym (single .1) k + sym (single .2) k) (m .session .size)) ∙ within)
-      ∙ sent-inside pairs sent (step registers m) (suc place) two (single .3) rest
+      ∙ sent-inside pairs sent (markedBy registers m) (suc place) two (single .3) rest
 
   -- and of the first machine what the last has
   abbrev Leaves : List Pair → Machine → Machine → Type 0
   Leaves pairs m n = n ≡ holding (withPrevious (n .session .previous) (withMarks (markPairs pairs (m .session .marks)) (m .session))) m
 
   sent-leaves : (pair : Pair) (pairs : List Pair) (registers : List ℕ) (sent : List (List ℕ)) (m : Machine) → m .session .version ≡ 2
-      → Single (pair ∷ pairs) (registers ∷ sent) → AllSucceed setup (registers ∷ sent) m → Leaves (pair ∷ pairs) m (afterAll setup (registers ∷ sent) m)
+      → Single (pair ∷ pairs) (registers ∷ sent) → AllSucceed setup (registers ∷ sent) m → Leaves (pair ∷ pairs) m (afterSent setup (registers ∷ sent) m)
   sent-leaves pair [] registers [] m two single ok =
       subst (Leaves (pair ∷ []) m) (sym (leaves setup registers m (single .0) two (accepted setup (m .session) registers (m .flash) (m .memory) (ok .0))))
       (λ k. holding (withMarks (replace (single .1 k) (replicate (single .2 k) dirty) (m .session .marks)) (numbered (m .session) registers)) m)
@@ -301,9 +299,9 @@ module _ (setup : Setup) where
   sent-leaves pair (next ∷ pairs) registers [] m two single ok = absurd (single .3)
   sent-leaves pair (next ∷ pairs) registers (other ∷ sent) m two single ok =
       let l = leaves setup registers m (single .0) two (accepted setup (m .session) registers (m .flash) (m .memory) (ok .0)) in
-      let end = afterAll setup (other ∷ sent) (step registers m) in
-      subst (λ (n : Machine). Leaves (pair ∷ next ∷ pairs) m (afterAll setup (other ∷ sent) n)) (sym l)
-      (sent-leaves next pairs other sent (step registers m) two (single .3) (subst (λ (n : Machine). AllSucceed setup (other ∷ sent) n) l (ok .1))
+      let end = afterSent setup (other ∷ sent) (markedBy registers m) in
+      subst (λ (n : Machine). Leaves (pair ∷ next ∷ pairs) m (afterSent setup (other ∷ sent) n)) (sym l)
+      (sent-leaves next pairs other sent (markedBy registers m) two (single .3) (subst (λ (n : Machine). AllSucceed setup (other ∷ sent) n) l (ok .1))
       ∙ (λ k.
       holding
       (withPrevious (end .session .previous)
@@ -330,7 +328,7 @@ module _ (setup : Setup) where
         r .0,
         ap (λ (b : Bool). cond (not b) (Outside first) (firstOutside (m .session .size) (suc first) pairs))
             ((λ k. leb (sym (single .1) k + sym (single .2) k) (m .session .size)) ∙ r .1)
-            ∙ sent-outside pairs sent (step registers m) (suc first) place two (single .3) rest .1
+            ∙ sent-outside pairs sent (markedBy registers m) (suc first) place two (single .3) rest .1
             ∙ ap Outside later,
       )
 
@@ -343,7 +341,7 @@ module _ (setup : Setup) (pairs : List Pair) (m : Machine) (two : m .session .ve
   list-answered : length pairs ≤ 64 → Ready setup m → answerFor (soundIn setup m) (numbersOf pairs) (m .session) ≡ firstOutside (m .session .size) 0 pairs
   list-answered few r =
       answer-taken (soundIn setup m) (numbersOf pairs) (m .session)
-      (record { sounds = r .sounds; second = eq-eqb (m .session .version) 2 two; awake = r .awake; writes = r .writes; formed = formed pairs few })
+      (record { sounds = r .sounds; is-two = eq-eqb (m .session .version) 2 two; awake = r .awake; writes = r .writes; formed = formed pairs few })
       ∙ ap (firstOutside (m .session .size) 0) (same-pairs pairs)
 
   list-after : answerFor (soundIn setup m) (numbersOf pairs) (m .session) ≡ Marked
@@ -363,7 +361,7 @@ none-after setup m =
 
 all-succeeded : (setup : Setup) (pairs : List Pair) (sent : List (List ℕ)) (m : Machine) → m .session .version ≡ 2 → length pairs ≤ 64 → Single pairs sent
     → AllSucceed setup sent m
-    → (afterList setup (numbersOf pairs) m ≡ holding (withPrevious (m .session .previous) (afterAll setup sent m .session)) (afterAll setup sent m))
+    → (afterList setup (numbersOf pairs) m ≡ holding (withPrevious (m .session .previous) (afterSent setup sent m .session)) (afterSent setup sent m))
     × ((pairs ≡ [] → ⊥) → answerCode setup (numbersOf pairs) m ≡ 1)
 all-succeeded setup [] [] m two few single ok = (none-after setup m, λ n. absurd (n refl))
 all-succeeded setup [] (registers ∷ sent) m two few single ok = absurd single
@@ -416,12 +414,9 @@ answered setup list m b e = list-answer setup list m ∙ ap (λ (b : Bool). answ
 
 module _ (setup : Setup) (list registers : List ℕ) (m : Machine) (two : m .session .version ≡ 2) (is : commandOf registers ≡ 7)
     (new : isPrevious (m .session .previous) (sequenceOf registers) ≡ false) where
-  abbrev response : ℕ
-  response = responseTo setup registers m
-
   -- a code that is neither 1 nor 2 is the response
   abbrev Alike : ℕ → Type 0
-  Alike code = (code ≡ 1 → ⊥) → (code ≡ 2 → ⊥) → response ≡ code
+  Alike code = (code ≡ 1 → ⊥) → (code ≡ 2 → ⊥) → response setup registers m ≡ code
 
   to-command : (b : Bool) → soundIn setup m ≡ b → Alike (listCode (answerFor b list (m .session)))
   unfolding answerFor
@@ -437,7 +432,7 @@ module _ (setup : Setup) (list registers : List ℕ) (m : Machine) (two : m .ses
 
   -- and the other way round
   to-list : (b suspends writes : Bool) → soundIn setup m ≡ b → m .session .suspended ≡ suspends → isWrite (m .session .window) ≡ writes
-      → (response ≡ 1 → ⊥) → (response ≡ 2 → ⊥) → answerCode setup list m ≡ response
+      → (response setup registers m ≡ 1 → ⊥) → (response setup registers m ≡ 2 → ⊥) → answerCode setup list m ≡ response setup registers m
   unfolding answerFor
   to-list false suspends writes e s w not-1 not-2 = ap listCode (answered setup list m false e) ∙ sym (unsound-four setup registers m is two e)
   to-list true true writes e s w not-1 not-2 =
@@ -461,16 +456,16 @@ list-refused-alike setup list registers m two is new = (
       (to-command setup list registers m two is new (soundIn setup m) refl),
   to-list setup list registers m two is new (soundIn setup m) (m .session .suspended) (isWrite (m .session .window)) refl refl refl,
   ⊎-elim
-      (λ (e : responseTo setup registers m ≡ 1).
+      (λ (e : response setup registers m ≡ 1).
       none-marked setup list registers m two is new
       (ready-if setup registers m is two (accepted setup (m .session) registers (m .flash) (m .memory) e) .0))
-      (λ (e : responseTo setup registers m ≡ 2). none-marked setup list registers m two is new (argued setup registers m is two e .0)),
+      (λ (e : response setup registers m ≡ 2). none-marked setup list registers m two is new (argued setup registers m is two e .0)),
 )
 
 pub list-at-version : ListAtVersion
 unfolding answerFor
 list-at-version setup list m = (
-  λ e. ap listCode (answered setup list m false e),
+  λ e. let q = answered setup list m false e in (ap listCode q, ap namesPair q),
   λ e n.
       let other : answerFor true list (m .session) ≡ OtherVersion = rw (ne-eqb (m .session .version) 2 n) refl in
       let q = answered setup list m true e ∙ other in
@@ -498,3 +493,15 @@ list-malformed setup list m h =
     (λ _ _. (λ q. omega arith, refl))
     (λ _. (λ q. omega arith, refl))
     (λ t. absurd (false≢true (sym (t .formed) ∙ odd-or-long (length list) h))))
+
+pub list-unnamed : ListUnnamed
+list-unnamed setup list m = none (listedIn setup list m .answer)
+  where
+    none : (a : ListAnswer) → namesPair a ≡ false → placeNamed a ≡ 0
+    none Marked e = refl
+    none Unsound e = refl
+    none OtherVersion e = refl
+    none Suspended e = refl
+    none Windowless e = refl
+    none Malformed e = refl
+    none (Outside place) e = absurd (false≢true (sym e))

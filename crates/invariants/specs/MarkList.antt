@@ -13,7 +13,7 @@ use Rattle.soundness.specs.Soundness.{soundIn}
 use Rattle.registers.specs.Registers.{commandOf, sequenceOf, number}
 use Rattle.refusals.specs.Refusals.{isPrevious}
 use Rattle.marklist.specs.MarkList.{Pair, pairsOf, listCode, namesPair, placeNamed, isListed, listedIn, afterList}
-use Rattle.mailbox.specs.Mediator.{mediate}
+use Rattle.mailbox.specs.Mediator.{mediate, response}
 
 -- the code that a list is answered with, and whether it names a pair, by its place
 abbrev pub answerCode : Setup → List ℕ → Machine → ℕ
@@ -61,24 +61,21 @@ Single (pair ∷ pairs) [] = ⊥
 Single (pair ∷ pairs) (registers ∷ sent) =
     (commandOf registers ≡ 7) × (number 2 0 registers ≡ pair .block) × (number 2 2 registers ≡ pair .count) × Single pairs sent
 
--- the response of a command, and what it and a list of them leave
-abbrev pub responseTo : Setup → List ℕ → Machine → ℕ
-responseTo setup registers m = getD (mediate setup registers m .registers) 13 0
-
-abbrev pub afterAll : Setup → List (List ℕ) → Machine → Machine
-afterAll setup [] m = m
-afterAll setup (registers ∷ sent) m = afterAll setup sent (mediate setup registers m .machine)
+-- what a list of commands leaves
+abbrev pub afterSent : Setup → List (List ℕ) → Machine → Machine
+afterSent setup [] m = m
+afterSent setup (registers ∷ sent) m = afterSent setup sent (mediate setup registers m .machine)
 
 -- each of them succeeds (1)
 abbrev pub AllSucceed : Setup → List (List ℕ) → Machine → Type 0
 AllSucceed setup [] m = Unit
-AllSucceed setup (registers ∷ sent) m = (responseTo setup registers m ≡ 1) × AllSucceed setup sent (mediate setup registers m .machine)
+AllSucceed setup (registers ∷ sent) m = (response setup registers m ≡ 1) × AllSucceed setup sent (mediate setup registers m .machine)
 
 -- they succeed so many times, and the next is refused with PARAM_ERROR (2)
 abbrev pub FailAt : ℕ → Setup → List (List ℕ) → Machine → Type 0
 FailAt place setup [] m = ⊥
-FailAt zero setup (registers ∷ sent) m = responseTo setup registers m ≡ 2
-FailAt (suc place) setup (registers ∷ sent) m = (responseTo setup registers m ≡ 1) × FailAt place setup sent (mediate setup registers m .machine)
+FailAt zero setup (registers ∷ sent) m = response setup registers m ≡ 2
+FailAt (suc place) setup (registers ∷ sent) m = (response setup registers m ≡ 1) × FailAt place setup sent (mediate setup registers m .machine)
 
 -- numbers that never repeat the one before, the first of them not the session's previous one
 abbrev pub NeverRepeat : Previous → List (List ℕ) → Type 0
@@ -87,13 +84,13 @@ NeverRepeat previous (registers ∷ sent) =
     (isPrevious previous (sequenceOf registers) ≡ false) × NeverRepeat (Number (sequenceOf registers)) sent
 
 -- at version 2, of every list of up to 64 pairs and all such commands: where the commands succeed the list leaves what they leave but for the previous
--- number, and answers 1, if there are any; where the list names a place they fail there; where it answers 1 they succeed; and where they fail at a place the
--- list names it. What no pairs are answered is said below
+-- number, and answers 1, if there are any; where they fail at a place the list names it; and with numbers that never repeat they fail where it names a place,
+-- and succeed where it answers 1. What the empty list is answered is said below
 abbrev pub ListAsCommands : Type 0
 ListAsCommands =
     (setup : Setup) (pairs : List Pair) (sent : List (List ℕ)) (m : Machine) → m .session .version ≡ 2 → length pairs ≤ 64 → Single pairs sent
     → (AllSucceed setup sent m
-    → (afterList setup (numbersOf pairs) m ≡ holding (withPrevious (m .session .previous) (afterAll setup sent m .session)) (afterAll setup sent m))
+    → (afterList setup (numbersOf pairs) m ≡ holding (withPrevious (m .session .previous) (afterSent setup sent m .session)) (afterSent setup sent m))
     × ((pairs ≡ [] → ⊥) → answerCode setup (numbersOf pairs) m ≡ 1))
     × ((place : ℕ) → Names place setup (numbersOf pairs) m → NeverRepeat (m .session .previous) sent → FailAt place setup sent m)
     × (answerCode setup (numbersOf pairs) m ≡ 1 → NeverRepeat (m .session .previous) sent → AllSucceed setup sent m)
@@ -102,20 +99,20 @@ ListAsCommands =
 -- ---- the refusals that come before the pairs, of any list
 
 -- of the session, 4, 6 and 7: at version 2 a list is so refused exactly where a MARK_DIRTY with a new number is, whatever either names; and where that one is
--- not, no pairs are answered with 1: "An empty list succeeds"
+-- not, the empty list is answered with 1: "An empty list succeeds"
 abbrev pub ListRefusedAlike : Type 0
 ListRefusedAlike =
     (setup : Setup) (list registers : List ℕ) (m : Machine) → m .session .version ≡ 2 → commandOf registers ≡ 7
     → isPrevious (m .session .previous) (sequenceOf registers) ≡ false
-    → ((answerCode setup list m ≡ 1 → ⊥) → (answerCode setup list m ≡ 2 → ⊥) → responseTo setup registers m ≡ answerCode setup list m)
-    × ((responseTo setup registers m ≡ 1 → ⊥) → (responseTo setup registers m ≡ 2 → ⊥) → answerCode setup list m ≡ responseTo setup registers m)
-    × ((responseTo setup registers m ≡ 1) ⊎ (responseTo setup registers m ≡ 2) → answerCode setup [] m ≡ 1)
+    → ((answerCode setup list m ≡ 1 → ⊥) → (answerCode setup list m ≡ 2 → ⊥) → response setup registers m ≡ answerCode setup list m)
+    × ((response setup registers m ≡ 1 → ⊥) → (response setup registers m ≡ 2 → ⊥) → answerCode setup list m ≡ response setup registers m)
+    × ((response setup registers m ≡ 1) ⊎ (response setup registers m ≡ 2) → answerCode setup [] m ≡ 1)
 
 -- "SYSTEM_ERROR, version not 2": at every version 4 where the sizes, B or the session are not sound, else 2 at any other version than 2, and no pair is named
 abbrev pub ListAtVersion : Type 0
 ListAtVersion =
     (setup : Setup) (list : List ℕ) (m : Machine)
-    → (soundIn setup m ≡ false → answerCode setup list m ≡ 4)
+    → (soundIn setup m ≡ false → (answerCode setup list m ≡ 4) × (isNaming setup list m ≡ false))
     × (soundIn setup m ≡ true → (m .session .version ≡ 2 → ⊥) → (answerCode setup list m ≡ 2) × (isNaming setup list m ≡ false))
 
 -- "odd length or more than 64 pairs": such a list is never marked, and no pair of it is named
@@ -123,3 +120,7 @@ abbrev pub ListMalformed : Type 0
 ListMalformed =
     (setup : Setup) (list : List ℕ) (m : Machine) → (length list % 2 ≡ 1) ⊎ (128 < length list)
     → (answerCode setup list m ≡ 1 → ⊥) × (isNaming setup list m ≡ false)
+
+-- where no pair is named the place is 0 (house)
+abbrev pub ListUnnamed : Type 0
+ListUnnamed = (setup : Setup) (list : List ℕ) (m : Machine) → isNaming setup list m ≡ false → placeNamed (listedIn setup list m .answer) ≡ 0

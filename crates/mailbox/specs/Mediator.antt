@@ -3,7 +3,7 @@ use Prim.Native.Nat.{ℕ}
 use mathlib.Core.Bool.{Bool, cond}
 use mathlib.Core.List.{List, [], _∷_}
 use lib.Dec.{eqb}
-use lib.ListN.{length}
+use lib.ListN.{length, getD}
 use Rattle.units.specs.Units.{roundUp}
 use Rattle.session.specs.Machine.{Setup, Machine}
 use Rattle.soundness.specs.Soundness.{soundIn}
@@ -51,3 +51,7 @@ reasonIn setup registers m = reasonOf (commandIn registers) (soundIn setup m) re
 -- what a call leaves of what it is given
 unfoldable pub mediate : Setup → List ℕ → Machine → Outcome
 mediate setup registers m = obeyed (commandIn registers) (soundIn setup m) setup registers m
+
+-- the response, "13 the response", that it leaves in the registers
+abbrev pub response : Setup → List ℕ → Machine → ℕ
+response setup registers m = getD (mediate setup registers m .registers) 13 0

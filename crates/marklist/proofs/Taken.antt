@@ -28,7 +28,7 @@ use Rattle.marklist.proofs.InPairs.{inside-larger}
 
 pub record Taken (sound : Bool) (list : List ℕ) (s : Session) : Type 0 where
   pub sounds : sound ≡ true
-  pub second : eqb (s .version) 2 ≡ true
+  pub is-two : eqb (s .version) 2 ≡ true
   pub awake : s .suspended ≡ false
   pub writes : isWrite (s .window) ≡ true
   pub formed : malformed (length list) ≡ false
@@ -57,14 +57,14 @@ pub each-check : (P : ListAnswer → Type 0) (sound : Bool) (list : List ℕ) (s
 unfolding answerFor
 each-check P sound list s unsound other suspended windowless odd pairs =
     chosen P (not sound) Unsound _ (λ e. unsound (not-true sound e)) λ sounds.
-    chosen P (not (eqb (s .version) 2)) OtherVersion _ (λ e. other (not-true (eqb (s .version) 2) e)) λ second.
+    chosen P (not (eqb (s .version) 2)) OtherVersion _ (λ e. other (not-true (eqb (s .version) 2) e)) λ two.
     chosen P (s .suspended) Suspended _ suspended λ awake.
     chosen P (not (isWrite (s .window))) Windowless _ (λ e. windowless awake (not-true (isWrite (s .window)) e)) λ writes.
     chosen P (malformed (length list)) Malformed _ odd λ formed.
     pairs
     (record {
       sounds = not-false sound sounds;
-      second = not-false (eqb (s .version) 2) second;
+      is-two = not-false (eqb (s .version) 2) two;
       awake = awake;
       writes = not-false (isWrite (s .window)) writes;
       formed = formed;
@@ -83,7 +83,7 @@ taken sound list s a o =
 -- and the other way round
 pub answer-taken : (sound : Bool) (list : List ℕ) (s : Session) → Taken sound list s → answerFor sound list s ≡ firstOutside (s .size) 0 (pairsOf list)
 unfolding answerFor
-answer-taken sound list s t = rw (t .sounds, t .second, t .awake, t .writes, t .formed)
+answer-taken sound list s t = rw (t .sounds, t .is-two, t .awake, t .writes, t .formed)
 
 -- a refused list, as the code tells it apart, leaves the session as it was
 pub kept : (a : ListAnswer) (list : List ℕ) (s : Session) → OneOf (1 ∷ 2 ∷ 3 ∷ 4 ∷ 5 ∷ 6 ∷ []) (tagOf answer-type a) → s ≡ sessionFor a list s

@@ -30,7 +30,8 @@ use Rattle.mailbox.specs.Runs.{Call, send, write, written, called, calledAll}
 use Rattle.invariants.proofs.Runs.{write-within, run-keeps}
 use Rattle.recovery.specs.Cut.{cut}
 use Rattle.recovery.specs.Recipe.{getInfo, reopen, markDirty, markErased, former, restored, restoredFrom, recipe, flushAll, ByRecipe, Recovers}
-use Rattle.recovery.specs.Second.{response, sent, AllAllowed, Way, bySteps, byFlush, Succeeds, begun, agreeing, opening, marking}
+use Rattle.mailbox.specs.Mediator.{response}
+use Rattle.recovery.specs.Second.{sent, AllAllowed, Way, bySteps, byFlush, Succeeds, begun, agreeing, opening, marking}
 use Rattle.recovery.proofs.Demand.{demand-3}
 use Rattle.recovery.proofs.FirstList.{marks-sound}
 use Rattle.recovery.proofs.MarksAgain.{mark-most, mark-past, mark-more, mark-none}

@@ -28,14 +28,14 @@ use Rattle.marklist.specs.MarkList.{pairsOf, markPairs, afterList}
 use Rattle.marklist.proofs.Taken.{list-left}
 use Rattle.mailbox.specs.Commands.{Outcome, numbered, numberedIn, marked, flushing, created, flushedAll}
 use Rattle.mailbox.specs.Table.{getInfo, createWriteWindow, markDirty, flush, erase}
-use Rattle.mailbox.specs.Mediator.{commandAt, commandIn, reasonIn, answerTo, mediate}
+use Rattle.mailbox.specs.Mediator.{commandAt, commandIn, reasonIn, answerTo, mediate, response}
 use Rattle.mailbox.proofs.Mediating.{mediate-as, carried}
 use Rattle.mailbox.specs.Runs.{Call, send, markList, suspend, resume, resumeChanged, advance, write, alter, written, called, calledAll}
 use Rattle.mailbox.proofs.Lengths.{memory-long}
 use Rattle.invariants.proofs.Kept.{fresh-sound}
 use Rattle.invariants.proofs.Runs.{write-long}
 use Rattle.invariants.proofs.Succeeding.{accepted}
-use Rattle.recovery.specs.Second.{response, sent, Allowed, AllAllowed, begun}
+use Rattle.recovery.specs.Second.{sent, Allowed, AllAllowed, begun}
 
 -- ---- a flush without marks leaves the flash
 clean-none : flushActions clean ≡ []

@@ -24,9 +24,9 @@ use Rattle.refusals.specs.Refusals.{blocksNamed, isPrevious, isWrite, needsNumb
 use Rattle.refusals.proofs.Accepting.{accepts}
 use Rattle.mailbox.specs.Commands.{Outcome, numbered, numberedIn, sizeFor}
 use Rattle.mailbox.specs.Table as table
-use Rattle.mailbox.specs.Mediator.{commandAt, reasonOf, mediate}
+use Rattle.mailbox.specs.Mediator.{commandAt, reasonOf, mediate, response}
 use Rattle.mailbox.proofs.Mediating.{carried}
-use Rattle.recovery.specs.Second.{response, sent, begun}
+use Rattle.recovery.specs.Second.{sent, begun}
 use Rattle.recovery.specs.Recipe.{getInfo}
 
 -- a 16-bit number is that of its two bytes

@@ -14,14 +14,11 @@ use Rattle.session.specs.Suspension.{resumed}
 use Rattle.registers.specs.Registers.{commandOf}
 use Rattle.mailbox.specs.Commands.{flushing}
 use Rattle.mailbox.specs.Table.{getInfo, createWriteWindow, markDirty, flush, erase}
-use Rattle.mailbox.specs.Mediator.{mediate}
+use Rattle.mailbox.specs.Mediator.{mediate, response}
 use Rattle.mailbox.specs.Runs.{Call, send, markList, suspend, resume, resumeChanged, advance, write, alter, called, calledAll}
 use Rattle.recovery.specs.Cut.{stepped, step, afterAll, answers, actionsOf, start}
 
--- a mailbox command: its response register, and what it leaves
-abbrev pub response : Setup → List ℕ → Machine → ℕ
-response setup registers m = getD (mediate setup registers m .registers) 13 0
-
+-- what a mailbox command leaves
 abbrev pub sent : Setup → List ℕ → Machine → Machine
 sent setup registers m = called setup (send registers) m
 

@@ -1,4 +1,4 @@
-// When the lent sizes, B and a session are sound, and how much of a session is pending.
+// When the lent sizes, B and a session are sound, and how much of a session is pending; marks with their numbers.
 //
 // Every length and every session record gets an answer; what is not sound is SYSTEM_ERROR to a command or a list of marks and, B
 // aside, 4 to a step.

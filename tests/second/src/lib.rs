@@ -111,7 +111,7 @@ impl Session {
 /// The number of blocks in a buffer, if it is whole blocks, 1 to `most`.
 fn whole_blocks(len: usize, most: usize) -> Option<usize> {
     let blocks = len / BLOCK;
-    let good = len.is_multiple_of(BLOCK) && blocks >= 1 && blocks <= most;
+    let good = len % BLOCK == 0 && blocks >= 1 && blocks <= most;
     good.then_some(blocks)
 }
 
