@@ -218,7 +218,7 @@ uint32_t hiomap_command(hiomap_record *record, uint8_t (*registers)[HIOMAP_REGIS
  * window, 2, and the first such pair is named.
  */
 hiomap_list_reply hiomap_mark_list(hiomap_record *record, hiomap_const_numbers list, uint16_t lpc, uint16_t timeout,
-                                    size_t flash, size_t memory);
+                                   size_t flash, size_t memory);
 
 /*
  * Flash access is suspended; resumed with the flash as it was; resumed with the flash changed, which drops
