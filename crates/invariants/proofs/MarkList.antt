@@ -8,7 +8,7 @@ use native.Mathlib.Omega.{arith}
 use lib.Dec.{leb, eqb}
 use lib.ListN.{length, getD, replicate}
 use borrow.Author.Tests.{le-leb, le-ltb, lt-ltb, eq-eqb, ne-eqb, eqb-false, not-false}
-use Rattle.units.proofs.Cases.{decided}
+use Rattle.units.proofs.Cases.{decided, passed-by}
 use Rattle.buffers.specs.Ranges.{replace}
 use Rattle.session.specs.declared.Session.{Session}
 use Rattle.session.specs.declared.Counts.{Counts}
@@ -160,21 +160,20 @@ module _ (setup : Setup) (registers : List ℕ) (m : Machine) (is : commandOf re
       ∙ ap (codeFor 2) (reason-is ∙ (λ k. reasonFor (soundIn setup m) (m .session) registers (known k) WriteWindow (not (inside-is k))))
 
   -- PARAM_ERROR is that of an argument: every check before has passed
+  abbrev Two : Reason → Type 0
+  Two r = codeFor 2 r ≡ 2
+
   argued : response setup registers m ≡ 2 → Ready setup m × (inside ≡ false)
   unfolding reasonFor
   argued e =
-      let a = check (not (soundIn setup m)) System _ (λ q. omega arith) (sym responds-as ∙ e) in
-      let b = check repeated Repeated _ (λ q. omega arith) (a .1) in
-      let c = check (m .session .suspended) SuspendedCommand _ (λ q. omega arith) (b .1) in
-      let d = check (not (isWrite (m .session .window))) WindowlessCommand _ (λ q. omega arith) (c .1) in (
+      let a = passed-by Two (not (soundIn setup m)) System _ (λ q. omega arith) (sym responds-as ∙ e) in
+      let b = passed-by Two repeated Repeated _ (λ q. omega arith) (a .1) in
+      let c = passed-by Two (m .session .suspended) SuspendedCommand _ (λ q. omega arith) (b .1) in
+      let d = passed-by Two (not (isWrite (m .session .window))) WindowlessCommand _ (λ q. omega arith) (c .1) in (
         record { sounds = not-false (soundIn setup m) (a .0); two = two; awake = c .0; writes = not-false (isWrite (m .session .window)) (d .0) },
         last inside (d .1),
       )
     where
-      check : (t : Bool) (r rest : Reason) → (codeFor 2 r ≡ 2 → ⊥) → codeFor 2 (cond t r rest) ≡ 2 → (t ≡ false) × (codeFor 2 rest ≡ 2)
-      check true r rest n q = absurd (n q)
-      check false r rest n q = (refl, q)
-
       last : (b : Bool) → codeFor 2 (cond (not b) Argument Accepted) ≡ 2 → b ≡ false
       last true q = absurd (omega arith)
       last false q = refl

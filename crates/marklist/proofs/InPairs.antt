@@ -5,10 +5,11 @@ use mathlib.Core.List.{List, [], _∷_}
 use Prim.Native.Nat.{ℕ, suc, _+_, _*_, _/_, _%_, _≤_, _<_}
 use native.Mathlib.Nat.{le-trans}
 use native.Mathlib.Omega.{arith}
-use borrow.Author.Tests.{ltb-false, leb-true, le-leb, eqb-false}
+use borrow.Author.Tests.{ltb-false, leb-true, le-leb, eqb-false, not-false}
 use lib.Dec.{leb, ltb, eqb}
 use lib.ListN.{length, getD, drop, length-drop}
 use lib.Seq.{drop-cons}
+use Rattle.units.proofs.Cases.{passed-by}
 use Rattle.marklist.specs.declared.ListAnswer.{ListAnswer}
 use Rattle.marklist.specs.declared.ListAnswer.the-variants.{Marked, Outside}
 use Rattle.marklist.specs.MarkList.{Pair, pairsOf, malformed, firstOutside}
@@ -78,8 +79,9 @@ none-left list at h = no-pair (drop at list) (rw length-drop (omega arith))
 
 -- where no pair lies outside, the first lies inside, and none of the rest outside
 front-inside : (inside : Bool) (place : ℕ) (rest : ListAnswer) → cond (not inside) (Outside place) rest ≡ Marked → (inside ≡ true) × (rest ≡ Marked)
-front-inside true place rest e = (refl, e)
-front-inside false place rest e = absurd (refused e)
+front-inside inside place rest e =
+    let f = passed-by (λ (a : ListAnswer). a ≡ Marked) (not inside) (Outside place) rest refused e in
+    (not-false inside (f .0), f .1)
   where
     refused : Outside place ≡ Marked → ⊥
     refused q = let z : _≡_ {A = ℕ} 0 1 = cc in omega arith

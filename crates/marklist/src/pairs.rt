@@ -37,7 +37,7 @@ fn is_inside(block: u16, count: u16, size: u16) -> bool
 }
 
 // The marks with those of all pairs dirty: first how far the pairs reach, then block after block, so that a pair of
-// many blocks costs no more than one of a single block.
+// many blocks takes no more turns than one of a single block.
 pub(crate) fn mark_pairs(marks: [u8; 64], list: &[u16]) -> [u8; 64]
     requires { ⌜ firstOutside 64 0 (pairsOf (now list)) ≡ Marked ⌝ }
     ensures { λ r. ⌜ r ≡ markPairs (pairsOf (now (list .entry))) marks ⌝ }

@@ -1,5 +1,5 @@
 -- What a command that no check refused tells, and what its arguments then name.
-use mathlib.Core.Path.{_≡_, refl}
+use mathlib.Core.Path.{_≡_}
 use mathlib.Core.Bool.{Bool, true, false, cond, not, _&&_}
 use mathlib.Core.List.{List}
 use mathlib.Core.Logic.{⊎-elim}
@@ -7,7 +7,7 @@ use Prim.Native.Nat.{ℕ, _+_, _-_, _≤_}
 use native.Mathlib.Omega.{arith}
 use lib.Dec.{leb, ltb}
 use borrow.Author.Tests.{leb-true, not-false}
-use Rattle.units.proofs.Cases.{decided, both}
+use Rattle.units.proofs.Cases.{decided, passed-by, both}
 use Rattle.units.specs.Units.{roundUp}
 use Rattle.session.specs.declared.Session.{Session}
 use Rattle.refusals.specs.declared.Reason.{Reason}
@@ -25,21 +25,20 @@ pub record Passed (sound : Bool) (s : Session) (registers : List ℕ) (known : B
   pub windowed : (needsWindow needs && not (isWrite (s .window))) ≡ false
   pub argued : broken ≡ false
 
--- one row of the table
-row : (t : Bool) (r rest : Reason) → (r ≡ Accepted → ⊥) → cond t r rest ≡ Accepted → (t ≡ false) × (rest ≡ Accepted)
-row true r rest n e = absurd (n e)
-row false r rest n e = (refl, e)
+-- the answer of a command that no row refuses
+abbrev Is : Reason → Type 0
+Is r = r ≡ Accepted
 
 pub passed : (sound : Bool) (s : Session) (registers : List ℕ) (known : Bool) (needs : Needs) (broken : Bool)
     → reasonFor sound s registers known needs broken ≡ Accepted → Passed sound s registers known needs broken
 unfolding reasonFor
 passed sound s registers known needs broken e =
-    let a = row (not sound) System _ (λ q. no-system q) e in
-    let b = row (needsNumber needs && isPrevious (s .previous) (sequenceOf registers)) Repeated _ (λ q. no-repeated q) (a .1) in
-    let c = row (not known) Unknown _ (λ q. no-unknown q) (b .1) in
-    let d = row (needsAccess needs && s .suspended) Suspended _ (λ q. no-suspended q) (c .1) in
-    let f = row (needsWindow needs && not (isWrite (s .window))) Windowless _ (λ q. no-windowless q) (d .1) in
-    let g = row broken Argument Accepted (λ q. no-argument q) (f .1) in
+    let a = passed-by Is (not sound) System _ (λ q. no-system q) e in
+    let b = passed-by Is (needsNumber needs && isPrevious (s .previous) (sequenceOf registers)) Repeated _ (λ q. no-repeated q) (a .1) in
+    let c = passed-by Is (not known) Unknown _ (λ q. no-unknown q) (b .1) in
+    let d = passed-by Is (needsAccess needs && s .suspended) Suspended _ (λ q. no-suspended q) (c .1) in
+    let f = passed-by Is (needsWindow needs && not (isWrite (s .window))) Windowless _ (λ q. no-windowless q) (d .1) in
+    let g = passed-by Is broken Argument Accepted (λ q. no-argument q) (f .1) in
     record {
       sounds = not-false sound (a .0);
       fresh = b .0;

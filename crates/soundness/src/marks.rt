@@ -68,7 +68,7 @@ fn is_within(largest: u8, end: u8, markable: u16) -> bool
     (end as u16) <= markable
 }
 
-// The larger of two, without a branch in the machine code.
+// The larger of two.
 pub fn larger(a: u8, b: u8) -> u8
     ensures { λ r. ⌜ r ≡ max a b ⌝ }
 {

@@ -18,6 +18,11 @@ pub chosen : {A : Type 0} (P : A → Type 0) (t : Bool) (x y : A) → (t ≡ tru
 chosen P true x y f g = f refl
 chosen P false x y f g = g refl
 
+-- what holds of the one that is chosen, and does not of the first, holds of the second, and the test fails
+pub passed-by : {A : Type 0} (P : A → Type 0) (t : Bool) (x y : A) → (P x → ⊥) → P (cond t x y) → (t ≡ false) × P y
+passed-by P true x y n p = absurd (n p)
+passed-by P false x y n p = (refl, p)
+
 -- both sides of a conjunction that holds
 pub both : (a b : Bool) → (a && b) ≡ true → (a ≡ true) × (b ≡ true)
 both true b e = (refl, e)
