@@ -1,0 +1,56 @@
+-- The phases by their numbers: a case distinction, and what no row of the table takes.
+use mathlib.Core.Path.{_≡_, refl}
+use mathlib.Core.Bool.{Bool, true, false, cond}
+use Prim.Native.Nat.{ℕ}
+use lib.Dec.{eqb}
+use borrow.Author.Tests.{eqb-true}
+use Rattle.kcs.specs.Port.{Phase, idle, writing, ending, awaiting, reading, aborting, failed, phaseOf}
+use Rattle.units.proofs.Cases.{chosen}
+use Rattle.kcs.specs.declared.Control.{Control}
+use Rattle.kcs.specs.Effects.{Tells, Continues, Finishes, WrongCode, onEnd, onData, left, stepOf, notKept}
+
+-- what holds of every phase, of each one where it is the number's, holds of the number's phase
+pub each-phase
+    : (P : Phase → Type 0) (n : ℕ)
+    → (n ≡ 0 → P idle) → (n ≡ 1 → P writing) → (n ≡ 2 → P ending) → (n ≡ 3 → P awaiting) → (n ≡ 4 → P reading) → (n ≡ 5 → P aborting) → P failed
+    → P (phaseOf n)
+each-phase P n p₀ p₁ p₂ p₃ p₄ p₅ p₆ =
+    chosen P (eqb n 0) _ _ (λ e. p₀ (eqb-true n 0 e)) (λ _.
+    chosen P (eqb n 1) _ _ (λ e. p₁ (eqb-true n 1 e)) (λ _.
+    chosen P (eqb n 2) _ _ (λ e. p₂ (eqb-true n 2 e)) (λ _.
+    chosen P (eqb n 3) _ _ (λ e. p₃ (eqb-true n 3 e)) (λ _.
+    chosen P (eqb n 4) _ _ (λ e. p₄ (eqb-true n 4 e)) (λ _.
+    chosen P (eqb n 5) _ _ (λ e. p₅ (eqb-true n 5 e)) (λ _. p₆))))))
+
+-- 62 is taken in the write phase alone
+pub no-end : (n : ℕ) → (n ≡ 1 → ⊥) → onEnd (phaseOf n) ≡ WrongCode
+no-end n n₁ =
+    each-phase (λ p. onEnd p ≡ WrongCode) n (λ _. refl) (λ e. absurd (n₁ e)) (λ _. refl) (λ _. refl) (λ _. refl) (λ _. refl) refl
+
+-- data is taken in four phases
+pub no-data
+    : (n : ℕ) (room more : Bool) (byte : ℕ) → (n ≡ 1 → ⊥) → (n ≡ 2 → ⊥) → (n ≡ 4 → ⊥) → (n ≡ 5 → ⊥) → onData (phaseOf n) room more byte ≡ WrongCode
+no-data n room more byte n₁ n₂ n₄ n₅ =
+    each-phase
+    (λ p. onData p room more byte ≡ WrongCode)
+    n
+    (λ _. refl)
+    (λ e. absurd (n₁ e))
+    (λ e. absurd (n₂ e))
+    (λ _. refl)
+    (λ e. absurd (n₄ e))
+    (λ e. absurd (n₅ e))
+    refl
+
+-- what 68 and 00 do keeps no byte and completes no message
+pub reading-step
+    : (asked more : Bool) (given : ℕ) (c : Control)
+    → notKept (left (cond asked (cond more Continues Finishes) WrongCode) given c) ≡ stepOf (cond asked (cond more Continues Finishes) WrongCode) given c
+reading-step true true given c = refl
+reading-step true false given c = refl
+reading-step false more given c = refl
+
+pub aborting-step
+    : (asked : Bool) (given : ℕ) (c : Control) → notKept (left (cond asked Tells WrongCode) given c) ≡ stepOf (cond asked Tells WrongCode) given c
+aborting-step true given c = refl
+aborting-step false given c = refl

@@ -1,0 +1,15 @@
+-- `kcs::controls::bit` meets its contract.
+use borrow.Author.Tests.{eq-eqb, ne-eqb}
+use Rattle.kcs.proofs.controls.bit.Statement.{statement}
+use Rattle.kcs.proofs.controls.bit.Tie as tie
+use Rattle.kcs.proofs.controls.bit.Reads as reads
+use Rattle.kcs.proofs.controls.bit.Lts as lts
+
+returns : tie.Need-returns
+returns c = rw (eq-eqb (c .before .args .number) 0 (c .if1 .taken))
+
+returns-2 : tie.Need-returns-2
+returns-2 c = rw (ne-eqb (c .before .args .number) 0 (c .if1 .left))
+
+pub bit-spec : {M : Type 1} → statement M
+bit-spec = tie.close (tie.spec returns returns-2)

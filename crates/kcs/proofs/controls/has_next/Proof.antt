@@ -1,0 +1,15 @@
+-- `kcs::controls::has_next` meets its contract.
+use borrow.Author.Tests.{lt-ltb, le-ltb}
+use Rattle.kcs.proofs.controls.has_next.Statement.{statement}
+use Rattle.kcs.proofs.controls.has_next.Tie as tie
+use Rattle.kcs.proofs.controls.has_next.Reads as reads
+use Rattle.kcs.proofs.controls.has_next.Lts as lts
+
+returns : tie.Need-returns
+returns c = rw (lt-ltb (c .before .before .before .args .control .next) (c .before .before .before .args .control .end) (c .before .if1 .taken))
+
+returns-2 : tie.Need-returns-2
+returns-2 c = rw (le-ltb (c .before .before .args .control .next) (c .before .before .args .control .end) (c .if1 .left))
+
+pub has-next-spec : {M : Type 1} → statement M
+has-next-spec = tie.close (tie.spec returns returns-2)

@@ -1,0 +1,15 @@
+-- `kcs::controls::is_taken` meets its contract.
+use borrow.Author.Tests.{le-leb, lt-leb}
+use Rattle.kcs.proofs.controls.is_taken.Statement.{statement}
+use Rattle.kcs.proofs.controls.is_taken.Tie as tie
+use Rattle.kcs.proofs.controls.is_taken.Reads as reads
+use Rattle.kcs.proofs.controls.is_taken.Lts as lts
+
+returns : tie.Need-returns
+returns c = rw (le-leb (c .before .before .args .length) 64 (c .before .if1 .taken))
+
+returns-2 : tie.Need-returns-2
+returns-2 c = rw (lt-leb (c .before .args .length) 64 (c .if1 .left))
+
+pub is-taken-spec : {M : Type 1} → statement M
+is-taken-spec = tie.close (tie.spec returns returns-2)
