@@ -1,0 +1,4 @@
+pub mod Looks
+pub mod Boxes
+pub mod Sending
+pub mod Writing
