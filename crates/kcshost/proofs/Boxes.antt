@@ -8,7 +8,7 @@ use Rattle.kcs.specs.declared.Port.{Port}
 use Rattle.kcs.specs.Port.{phaseOf, stateBits, isSet}
 use Rattle.kcs.specs.Accesses.{statusRead}
 use Rattle.kcshost.specs.Runs.{readData}
-use Rattle.kcshost.specs.Host.{stateSeen, ibfSeen, obfSeen, waits, errorExit, Transfer, Chart, leaves, does, waitIbf, waitObf, clearObf, expect}
+use Rattle.kcshost.specs.Host.{stateSeen, ibfSeen, obfSeen, waits, errorExit, Transfer, Chart, leaves, does, waitIbf, waitObf, clearObf, expect, ifReading}
 
 -- ---- the status register, read bit by bit
 
@@ -88,3 +88,10 @@ module _ (next : Chart) (t : Transfer) where
 
   pub still-waits : isSet (t .port .control .full) ≡ false → waitObf next t ≡ leaves waits t
   still-waits e = pass (obfSeen (statusRead (t .port))) _ _ (obf-seen (t .port) ∙ e)
+
+module _ (next other : Chart) (t : Transfer) where
+  pub reads : eqb (stateBits (phaseOf (t .port .control .phase))) 1 ≡ true → ifReading next other t ≡ next t
+  reads e = pick (eqb (stateSeen (statusRead (t .port))) 1) _ _ (ap (λ (n : ℕ). eqb n 1) (state-seen (t .port)) ∙ e)
+
+  pub reads-no-more : eqb (stateBits (phaseOf (t .port .control .phase))) 1 ≡ false → ifReading next other t ≡ other t
+  reads-no-more e = pass (eqb (stateSeen (statusRead (t .port))) 1) _ _ (ap (λ (n : ℕ). eqb n 1) (state-seen (t .port)) ∙ e)

@@ -1,16 +1,17 @@
 -- What the published host gets from a port, and what no access changes: 02, Ticket 3. Every claim is of every port, also of those that no access leaves.
 -- Proved in proofs/.
-use Prim.Native.Nat.{ℕ, _/_, _%_, _≤_, _<_}
+use Prim.Native.Nat.{ℕ, suc, _/_, _%_, _≤_, _<_}
 use mathlib.Core.Path.{_≡_}
 use mathlib.Core.Bool.{Bool, true, false, cond}
 use mathlib.Core.List.{List, [], _∷_, _++_}
+use mathlib.Core.Logic.{_⊎_}
 use lib.Dec.{eqb}
 use lib.ListN.{length}
 use Rattle.kcs.specs.declared.Port.{Port}
 use Rattle.kcs.specs.Port.{Phase, idle, writing, ending, awaiting, reading, aborting, failed, phaseOf, fresh}
 use Rattle.kcs.specs.Accesses.{statusRead, byteRead, dataRead, commandWritten, dataWritten, lengthTold, answers, answered}
 use Rattle.kcshost.specs.Runs.{Access, readStatus, readData, writeCommand, writeData, accessedAll, handedAll, outOfAll, countedAll, isNone, Step, access, answer, stepped, steppedAll}
-use Rattle.kcshost.specs.Host.{stateSeen, obfSeen, Met, ends, waits, Transfer, begin, seen, writeTransfer, readTransfer, recovery}
+use Rattle.kcshost.specs.Host.{stateSeen, obfSeen, ends, errorExit, waits, Transfer, begin, seen, writeTransfer, readTransfer, readOn, recovery}
 
 -- a list of accesses is this host's, with status reads anywhere between
 abbrev pub Makes : List Access → Transfer → Type 0
@@ -58,6 +59,21 @@ abbrev pub ReadWaits : Type 0
 ReadWaits =
     (turns : ℕ) (p : Port) → statusRead p ≡ 0x40 → 0 < turns → (readTransfer turns (begin p) .met ≡ waits) × (readTransfer turns (begin p) .made ≡ [])
 
+-- a host that has seen READ and stands at its wait for OBF goes on as one that begins now, where the response has a byte
+abbrev pub ReadGoesOn : Type 0
+ReadGoesOn =
+    (response : List ℕ) (turns : ℕ) (p : Port) → phaseOf (p .control .phase) ≡ awaiting → 1 ≤ length response → length response ≤ 64
+    → readOn turns (begin (answered response p)) ≡ readTransfer (suc turns) (begin (answered response p))
+
+-- an empty one it takes for a byte, for the chart has OBF alone there: it reads the 00, its READ in idle is a wrong code, and it comes to its error exit; 60 tells 02
+pub record Raced (t : Transfer) : Type 0 where
+  pub chart : t .met ≡ errorExit
+  pub got : t .got ≡ 0x00 ∷ []
+  pub fault : t .port .control .fault ≡ 0x02
+
+abbrev pub EmptyRaces : Type 0
+EmptyRaces = (turns : ℕ) (p : Port) → phaseOf (p .control .phase) ≡ awaiting → Raced (readOn (suc turns) (begin (answered [] p)))
+
 -- both together, from every port
 abbrev pub PublishedExchange : Type 0
 PublishedExchange =
@@ -77,3 +93,98 @@ pub record Recovered (p : Port) : Type 0 where
 
 abbrev pub PublishedRecovery : Type 0
 PublishedRecovery = (p : Port) → Recovered p
+
+-- ---- "reads the status that the rules name": over any list of accesses and answers
+
+-- what a step is for that status
+pub data Mark : Type 0 where
+  -- an error, with its status
+  fault : ℕ → Mark
+  -- 61, and idle
+  began rested : Mark
+  -- neither
+  passed : Mark
+
+-- a write: it is an error where ERROR_STATE follows, "a wrong code (02), then a request beyond 64 bytes (06)", the second of a data byte in the write phase that 61
+-- opens; else it is 61, or idle follows, or neither
+abbrev pub ofWrite : (isStart : Bool) (status state : ℕ) → Mark
+ofWrite isStart status state = cond (eqb state 3) (fault status) (cond isStart began (cond (eqb state 0) rested passed))
+
+-- data in the write phase that 61 opens is never a wrong code
+abbrev pub dataFault : Phase → ℕ
+dataFault writing = 0x06
+dataFault ending = 0x06
+dataFault idle = 0x02
+dataFault awaiting = 0x02
+dataFault reading = 0x02
+dataFault aborting = 0x02
+dataFault failed = 0x02
+
+abbrev pub markOf : Step → Port → Mark
+markOf (access readStatus) p = passed
+markOf (access readData) p = passed
+markOf (access (writeCommand code)) p = ofWrite (eqb code 0x61) 0x02 (stateSeen (statusRead (commandWritten code p)))
+markOf (access (writeData byte)) p = ofWrite false (dataFault (phaseOf (p .control .phase))) (stateSeen (statusRead (dataWritten byte p)))
+markOf (answer []) p = cond (answers [] p) rested passed
+markOf (answer (byte ∷ rest)) p = passed
+
+-- the marks of a list of steps, the newest first, before older ones
+abbrev pub marksOf : List Step → Port → List Mark → List Mark
+marksOf [] p older = older
+marksOf (step ∷ rest) p older = marksOf rest (stepped step p) (markOf step p ∷ older)
+
+-- "its status that of the last error since idle or 61, otherwise 01 if 61 came since idle, else 00": back from the newest; before all of them it is the port's own
+abbrev pub named : ℕ → List Mark → ℕ
+named first [] = first
+named first (fault status ∷ older) = status
+named first (began ∷ older) = 0x01
+named first (rested ∷ older) = 0x00
+named first (passed ∷ older) = named first older
+
+-- so after any steps from a fresh port, of which there is nothing to tell, the status is the named one
+abbrev pub StatusNamed : Type 0
+StatusNamed = (steps : List Step) (p : Port) → steppedAll steps p .control .fault ≡ named (p .control .fault) (marksOf steps p [])
+
+-- ---- what changes nothing
+
+-- "a read with OBF clear gives 00 and changes nothing"
+abbrev pub ClearRead : Type 0
+ClearRead = (p : Port) → obfSeen (statusRead p) ≡ false → (byteRead p ≡ 0x00) × (dataRead p ≡ p)
+
+-- a response "over 64 bytes or not awaited is refused, changing nothing"
+abbrev pub RefusedAnswer : Type 0
+RefusedAnswer =
+    (response : List ℕ) (p : Port) → (64 < length response) ⊎ (phaseOf (p .control .phase) ≡ awaiting → ⊥) → (answers response p ≡ false) × (answered response p ≡ p)
+
+-- ---- the status register
+
+-- "all status bits are 0 at first, IBF, SMS_ATN and OEM always": bits 1, 2, and 5 and 4
+abbrev pub StatusBits : Type 0
+StatusBits =
+    (statusRead fresh ≡ 0) × ((p : Port) → (statusRead p / 2 % 2 ≡ 0) × (statusRead p / 4 % 2 ≡ 0) × (statusRead p / 16 % 4 ≡ 0))
+
+-- C/D#, bit 3, follows every write, refused ones too, and no read and no answer
+pub record CommandBit (p : Port) : Type 0 where
+  pub command : (code : ℕ) → statusRead (commandWritten code p) / 8 % 2 ≡ 1
+  pub datum : (byte : ℕ) → statusRead (dataWritten byte p) / 8 % 2 ≡ 0
+  pub read : statusRead (dataRead p) / 8 % 2 ≡ statusRead p / 8 % 2
+  pub answer : (response : List ℕ) → statusRead (answered response p) / 8 % 2 ≡ statusRead p / 8 % 2
+
+-- OBF: "a write that completes a message clears OBF, each other sets it"
+pub record FullBit (p : Port) : Type 0 where
+  pub command : (code : ℕ) → obfSeen (statusRead (commandWritten code p)) ≡ true
+  pub datum : (byte : ℕ) → obfSeen (statusRead (dataWritten byte p)) ≡ eqb (lengthTold byte p) 0
+
+abbrev pub WritesShow : Type 0
+WritesShow = (p : Port) → CommandBit p × FullBit p
+
+-- "60 and 61 are taken in every state": WRITE_STATE follows. Any other command is taken, 62, in the write phase that 61 opens alone, and else leaves ERROR_STATE
+pub record CommandsTaken (p : Port) : Type 0 where
+  pub sixty : stateSeen (statusRead (commandWritten 0x60 p)) ≡ 2
+  pub sixtyOne : stateSeen (statusRead (commandWritten 0x61 p)) ≡ 2
+  pub sixtyTwo : phaseOf (p .control .phase) ≡ writing → stateSeen (statusRead (commandWritten 0x62 p)) ≡ 2
+  pub sixtyTwoElsewhere : (phaseOf (p .control .phase) ≡ writing → ⊥) → stateSeen (statusRead (commandWritten 0x62 p)) ≡ 3
+  pub others : (code : ℕ) → (code ≡ 0x60 → ⊥) → (code ≡ 0x61 → ⊥) → (code ≡ 0x62 → ⊥) → stateSeen (statusRead (commandWritten code p)) ≡ 3
+
+abbrev pub TakenAsSaid : Type 0
+TakenAsSaid = (p : Port) → CommandsTaken p

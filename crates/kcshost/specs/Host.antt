@@ -73,6 +73,10 @@ clearObf next t = cond (obfSeen (seen t)) (does readData next t) (next t)
 abbrev pub expect : ℕ → Chart → Chart
 expect state next t = cond (eqb (stateSeen (seen t)) state) (next t) (leaves errorExit t)
 
+-- "READ_STATE", or not
+abbrev pub ifReading : Chart → Chart → Chart
+ifReading next other t = cond (eqb (stateSeen (seen t)) 1) (next t) (other t)
+
 -- a byte of data is read from Data_Out
 abbrev pub receive : Chart → Chart
 receive next t = next record { port = accessed readData (t .port); made = t .made ++ (readData ∷ []); got = t .got ++ (byteRead (t .port) ∷ []); met = t .met }
@@ -98,10 +102,11 @@ conclude = expect 0 (waitObf (does readData (leaves ends)))
 -- many turns at most
 abbrev pub readTransfer : ℕ → Chart
 readTransfer zero t = t
-readTransfer (suc turns) t =
-    waitIbf
-      (λ u. cond (eqb (stateSeen (seen u)) 1) (waitObf (receive (does (writeData 0x68) (λ v. readTransfer turns v))) u) (conclude u))
-      t
+readTransfer (suc turns) t = waitIbf (ifReading (waitObf (receive (does (writeData 0x68) (λ u. readTransfer turns u)))) conclude) t
+
+-- the same host where it stands at "wait for OBF=1", having seen READ_STATE before the controller answered
+abbrev pub readOn : ℕ → Chart
+readOn turns = waitObf (receive (does (writeData 0x68) (readTransfer turns)))
 
 -- 9.18, figure 9-8: "Conclude by writing READ to data register, wait for IBF=0. State should be IDLE"
 abbrev pub receiveStatus : Chart
