@@ -77,6 +77,9 @@ module _ (next : Chart) (t : Transfer) where
   pub as-expected : (state : ℕ) → eqb (stateBits (phaseOf (t .port .control .phase))) state ≡ true → expect state next t ≡ next t
   as-expected state e = pick (eqb (stateSeen (statusRead (t .port))) state) _ _ (ap (λ (n : ℕ). eqb n state) (state-seen (t .port)) ∙ e)
 
+  pub unexpected : (state : ℕ) → eqb (stateBits (phaseOf (t .port .control .phase))) state ≡ false → expect state next t ≡ leaves errorExit t
+  unexpected state e = pass (eqb (stateSeen (statusRead (t .port))) state) _ _ (ap (λ (n : ℕ). eqb n state) (state-seen (t .port)) ∙ e)
+
   pub cleared : isSet (t .port .control .full) ≡ true → clearObf next t ≡ does readData next t
   cleared e = pick (obfSeen (statusRead (t .port))) _ _ (obf-seen (t .port) ∙ e)
 

@@ -4,5 +4,7 @@ pub mod Sending
 pub mod Writing
 pub mod Receiving
 pub mod Reading
+pub mod Waiting
 pub mod Recovering
 pub mod Registers
+pub mod Naming

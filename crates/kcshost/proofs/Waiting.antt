@@ -1,17 +1,18 @@
 -- A host that waits for the answer: until it comes, and when it does.
 use mathlib.Core.Path.{_≡_, refl, sym, ap, subst, _∙_}
-use mathlib.Core.Bool.{Bool, false}
+use mathlib.Core.Bool.{true, false}
 use mathlib.Core.List.{List, [], _∷_}
-use Prim.Native.Nat.{ℕ, zero, suc, _+_, _%_, _/_}
+use Prim.Native.Nat.{ℕ, zero, suc, _/_}
 use native.Mathlib.Omega.{arith}
 use lib.Dec.{eqb}
 use lib.ListN.{length}
 use borrow.Author.Tests.{ne-eqb}
 use Rattle.kcs.specs.declared.Port.{Port}
 use Rattle.kcs.specs.Port.{phaseOf, stateBits, isSet}
-use Rattle.kcs.specs.Accesses.{statusRead, dataRead, dataWritten, answered}
+use Rattle.kcs.specs.Accesses.{answered}
+use Rattle.buffers.specs.Ranges.{replace}
 use Rattle.kcshost.specs.Runs.{readData, writeData}
-use Rattle.kcshost.specs.Host.{obfSeen, errorExit, Chart, Transfer, begin, leaves, receive, does, waitObf, ifReading, conclude, readTransfer, readOn}
+use Rattle.kcshost.specs.Host.{obfSeen, ends, errorExit, waits, Chart, Transfer, begin, leaves, receive, does, waitObf, ifReading, conclude, readTransfer, readOn}
 use Rattle.kcshost.specs.Claims.{ReadWaits, ReadGoesOn, Raced, EmptyRaces}
 use Rattle.kcshost.proofs.Boxes.{state-seen, obf-seen, no-wait, no-longer-waits, still-waits, reads, reads-no-more, unexpected}
 use Rattle.kcshost.proofs.Sending.{at}
@@ -25,18 +26,38 @@ byte-read turns = receive (does (writeData 0x68) (λ u. readTransfer turns u))
 pub read-waits : ReadWaits
 read-waits zero p status some = absurd (omega (arith, some))
 read-waits (suc turns) p status some =
-    let state : eqb (stateBits (phaseOf (p .control .phase))) 1 ≡ true = ap (λ (s : ℕ). eqb (s / 64) 1) (sym (sym status)) in
-    ?
+    let state : eqb (stateBits (phaseOf (p .control .phase))) 1 ≡ true = ap (λ (n : ℕ). eqb n 1) (sym (state-seen p)) ∙ ap (λ (s : ℕ). eqb (s / 64) 1) status in
+    let clear : isSet (p .control .full) ≡ false = sym (obf-seen p) ∙ ap obfSeen status in
+    let stays
+        : readTransfer (suc turns) (begin p) ≡ leaves waits (begin p) =
+        no-wait (ifReading (waitObf (byte-read turns)) conclude) (begin p)
+        ∙ reads (waitObf (byte-read turns)) conclude (begin p) state
+        ∙ still-waits (byte-read turns) (begin p) clear in
+    (ap (λ (t : Transfer). t .met) stays, ap (λ (t : Transfer). t .made) stays)
 
 pub read-goes-on : ReadGoesOn
-read-goes-on [] turns p waits some fits = absurd (omega (arith, some))
-read-goes-on (byte ∷ rest) turns p waits some fits =
+read-goes-on [] turns p awaits some fits = absurd (omega (arith, some))
+read-goes-on (byte ∷ rest) turns p awaits some fits =
     let has : eqb (length (byte ∷ rest)) 0 ≡ false = ne-eqb (length (byte ∷ rest)) 0 (λ e. omega (arith, e)) in
     let q = answered (byte ∷ rest) p in
-    let reading : eqb (stateBits (phaseOf (q .control .phase))) 1 ≡ true = subst (λ (r : Port). eqb (stateBits (phaseOf (r .control .phase))) 1 ≡ true) (sym (answered-is (byte ∷ rest) p waits fits)) (rw has refl) in
+    let reading : eqb (stateBits (phaseOf (q .control .phase))) 1 ≡ true = subst (λ (r : Port). eqb (stateBits (phaseOf (r .control .phase))) 1 ≡ true) (sym (answered-is (byte ∷ rest) p awaits fits)) (rw has refl) in
     sym (no-wait (ifReading (waitObf (byte-read turns)) conclude) (begin q) ∙ reads (waitObf (byte-read turns)) conclude (begin q) reading)
 
 pub empty-races : EmptyRaces
-empty-races turns p waits =
-    let q = giving 0 (p .control .command) 0 0 (p .control .length) (p .control .next) (p .control .end) (p .request) (p .response) in
-    ?
+empty-races turns p awaits =
+    let c = p .control in
+    let quiet = giving 0 (c .command) 0 0 (c .length) (c .next) (c .end) (p .request) (replace 0 [] (p .response)) in
+    let broken = giving 6 0 0 2 (c .length) (c .next) (c .end) (p .request) (replace 0 [] (p .response)) in
+    let t = at broken (readData ∷ writeData 0x68 ∷ []) (0 ∷ []) in
+    let exits
+        : readOn (suc turns) (begin (answered [] p)) ≡ leaves errorExit t =
+        ap (λ (q : Port). readOn (suc turns) (begin q)) (answered-is [] p awaits (omega arith))
+        ∙ no-longer-waits (receive (does (writeData 0x68) (readTransfer (suc turns)))) (begin quiet) refl
+        ∙ no-wait (ifReading (waitObf (byte-read turns)) conclude) t
+        ∙ reads-no-more (waitObf (byte-read turns)) conclude t refl
+        ∙ unexpected (waitObf (does readData (leaves ends))) t 0 refl in
+    record {
+      chart = ap (λ (u : Transfer). u .met) exits;
+      got = ap (λ (u : Transfer). u .got) exits;
+      fault = ap (λ (u : Transfer). u .port .control .fault) exits;
+    }
