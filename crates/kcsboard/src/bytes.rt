@@ -9,7 +9,8 @@ ghost use Rattle.buffers.specs.Ranges.{replace};
 ghost use Rattle.kcsboard.specs.Bytes.{controlOf, controlBytes};
 
 // The controls.
-pub(crate) fn control_of(port: &[u8; 136]) -> Control
+pub(crate) fn control_of(port: &[u8]) -> Control
+    requires { ⌜ 8 ≤ length (now port) ⌝ }
     ensures { λ r. ⌜ r ≡ controlOf (now (port .entry)) ⌝ }
 {
     Control {
@@ -25,7 +26,8 @@ pub(crate) fn control_of(port: &[u8; 136]) -> Control
 }
 
 // Other controls; the buffers stay.
-pub(crate) fn put_control(port: &mut [u8; 136], control: Control)
+pub(crate) fn put_control(port: &mut [u8], control: Control)
+    requires { ⌜ 8 ≤ length (now port) ⌝ }
     ensures { λ _. ⌜ now (port .exit) ≡ controlBytes control ++ drop 8 (now (port .entry)) ⌝ }
 {
     port[0] = control.phase;

@@ -1,3 +1,11 @@
+-- `kcsboard::accesses::kcs_read_data` meets its contract.
+use mathlib.Core.Path.{_≡_, ap, _∙_}
+use mathlib.Core.List.{_++_}
+use lib.ListN.{length, drop}
+use Rattle.kcs.specs.declared.Control.{Control}
+use Rattle.kcs.specs.Accesses.{afterRead, outputOf}
+use Rattle.kcsboard.specs.Bytes.{controlOf, controlBytes}
+use Rattle.kcsboard.proofs.Places.{controls-changed}
 use borrow.Author.Needs.{needs}
 use Rattle.kcsboard.proofs.accesses.kcs_read_data.Statement.{statement}
 use Rattle.kcsboard.proofs.accesses.kcs_read_data.Tie as tie
@@ -8,25 +16,27 @@ use Rattle.kcs.proofs.output_of.Reads as output-of-reads
 use Rattle.kcsboard.proofs.bytes.control_of.Reads as control-of-reads
 use Rattle.kcsboard.proofs.bytes.put_control.Reads as put-control-reads
 
--- src/accesses.rt:31:9
 control-of-requires : tie.Need-control-of-requires
 control-of-requires c κs = search needs
 
--- src/accesses.rt:32:23
 after-read-requires : tie.Need-after-read-requires
 after-read-requires c κs = search needs
 
--- src/accesses.rt:32:5
 put-control-requires : tie.Need-put-control-requires
 put-control-requires c κs = search needs
 
--- src/accesses.rt:33:5
 output-of-requires : tie.Need-output-of-requires
 output-of-requires c κs = search needs
 
--- src/accesses.rt:26:1
 returns : tie.Need-returns
-returns c = ?
+returns c =
+    let xs = c .before .before .before .before .before .before .before .args .port .now in
+    let long : length xs ≡ 136 = search needs in
+    let control = c .before .before .before .before .control-of .ensures in
+    let next : c .before .before .after-read .result ≡ afterRead (controlOf xs) = c .before .before .after-read .ensures ∙ ap afterRead control in (
+      c .before .put-control .ensures ∙ ap (λ (k : Control). controlBytes k ++ drop 8 xs) next ∙ controls-changed (afterRead (controlOf xs)) xs long,
+      c .output-of .ensures ∙ ap outputOf control,
+    )
 
 pub kcs-read-data-spec : {M : Type 1} → statement M
 kcs-read-data-spec =

@@ -1,3 +1,11 @@
+-- `kcsboard::accesses::kcs_write_command` meets its contract.
+use mathlib.Core.Path.{_≡_, ap, _∙_}
+use mathlib.Core.List.{_++_}
+use lib.ListN.{length, drop}
+use Rattle.kcs.specs.declared.Control.{Control}
+use Rattle.kcs.specs.Accesses.{afterCommand}
+use Rattle.kcsboard.specs.Bytes.{controlOf, controlBytes}
+use Rattle.kcsboard.proofs.Places.{controls-changed}
 use borrow.Author.Needs.{needs}
 use Rattle.kcsboard.proofs.accesses.kcs_write_command.Statement.{statement}
 use Rattle.kcsboard.proofs.accesses.kcs_write_command.Tie as tie
@@ -7,21 +15,22 @@ use Rattle.kcs.proofs.after_command.Reads as after-command-reads
 use Rattle.kcsboard.proofs.bytes.control_of.Reads as control-of-reads
 use Rattle.kcsboard.proofs.bytes.put_control.Reads as put-control-reads
 
--- src/accesses.rt:41:9
 control-of-requires : tie.Need-control-of-requires
 control-of-requires c κs = search needs
 
--- src/accesses.rt:42:23
 after-command-requires : tie.Need-after-command-requires
 after-command-requires c κs = search needs
 
--- src/accesses.rt:42:5
 put-control-requires : tie.Need-put-control-requires
 put-control-requires c κs = search needs
 
--- src/accesses.rt:37:1
 returns : tie.Need-returns
-returns c = ?
+returns c =
+    let a = c .before .before .before .before .before .before .args in
+    let xs = a .port .now in
+    let long : length xs ≡ 136 = search needs in
+    let next : c .before .after-command .result ≡ afterCommand (a .code) (controlOf xs) = c .before .after-command .ensures ∙ ap (afterCommand (a .code)) (c .before .before .before .control-of .ensures) in
+    c .put-control .ensures ∙ ap (λ (k : Control). controlBytes k ++ drop 8 xs) next ∙ controls-changed (afterCommand (a .code) (controlOf xs)) xs long
 
 pub kcs-write-command-spec : {M : Type 1} → statement M
 kcs-write-command-spec =

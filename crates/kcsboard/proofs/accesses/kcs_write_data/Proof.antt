@@ -1,3 +1,18 @@
+-- `kcsboard::accesses::kcs_write_data` meets its contract.
+use mathlib.Core.Path.{_≡_, sym, ap, _∙_}
+use mathlib.Core.List.{_++_}
+use mathlib.Core.Logic.{⊎-elim}
+use Prim.Native.Nat.{ℕ, _+_}
+use native.Mathlib.Omega.{arith}
+use lib.ListN.{length, getD, set, drop}
+use Rattle.buffers.proofs.Replace.{range-at}
+use Rattle.kcs.specs.declared.Control.{Control}
+use Rattle.kcs.specs.declared.DataStep.{DataStep}
+use Rattle.kcs.specs.Effects.{hasNext, dataStep}
+use Rattle.kcs.specs.Accesses.{nextByte, dataWritten}
+use Rattle.kcs.proofs.Taking.{next-inside, kept-inside}
+use Rattle.kcsboard.specs.Bytes.{portOf, controlBytes}
+use Rattle.kcsboard.proofs.Places.{two-ranges, byte-put}
 use borrow.Author.Needs.{needs}
 use Rattle.kcsboard.proofs.accesses.kcs_write_data.Statement.{statement}
 use Rattle.kcsboard.proofs.accesses.kcs_write_data.Tie as tie
@@ -8,49 +23,65 @@ use Rattle.kcs.proofs.has_next.Reads as has-next-reads
 use Rattle.kcsboard.proofs.bytes.control_of.Reads as control-of-reads
 use Rattle.kcsboard.proofs.bytes.put_control.Reads as put-control-reads
 
--- src/accesses.rt:51:9
 control-of-requires : tie.Need-control-of-requires
 control-of-requires c κs = search needs
 
--- src/accesses.rt:52:14
 cast-at : tie.Need-cast-at
 cast-at c = search needs
 
--- src/accesses.rt:53:16
 cast-from : tie.Need-cast-from
 cast-from c = search needs
 
--- src/accesses.rt:54:20
 has-next-requires : tie.Need-has-next-requires
 has-next-requires c κs = search needs
 
--- src/accesses.rt:54:45
 add-given : tie.Need-add-given
 add-given c = search needs
 
--- src/accesses.rt:54:40
 element-copy-out-given : tie.Need-element-copy-out-given
-element-copy-out-given c = ?
+element-copy-out-given c =
+    let inside = next-inside (c .before .before .before .before .control-of .result) (sym (c .before .has-next .ensures) ∙ c .if1 .taken) in
+    omega (arith, inside)
 
--- src/accesses.rt:55:9
 after-data-requires : tie.Need-after-data-requires
 after-data-requires c κs = search needs
 
--- src/accesses.rt:57:14
 add-port : tie.Need-add-port
 add-port c = search needs
 
--- src/accesses.rt:57:9
 element-write-port : tie.Need-element-write-port
-element-write-port c = ?
+element-write-port c =
+    let control = c .before .before .before .before .before .before .control-of .result in
+    let inside = kept-inside (c .before .before .before .before .before .before .before .before .before .args .byte) (c .before .before .if1 .given) control (sym (ap (λ (s : DataStep). s .kept) (c .before .after-data .ensures)) ∙ c .if2 .taken) in
+    omega (arith, inside)
 
--- src/accesses.rt:59:5
 put-control-requires : tie.Need-put-control-requires
 put-control-requires c κs = search needs
 
--- src/accesses.rt:46:1
 returns : tie.Need-returns
-returns c = ?
+returns c =
+    let a = c .before .before .before .before .before .before .before .before .before .before .before .args in
+    let xs = a .port .now in
+    let long : length xs ≡ 136 = search needs in
+    let p = portOf xs in
+    let control : c .before .before .before .before .before .before .before .before .control-of .result ≡ p .control = c .before .before .before .before .before .before .before .before .control-of .ensures in
+    let looked : c .before .before .before .before .before .has-next .result ≡ hasNext (p .control) = c .before .before .before .before .before .has-next .ensures ∙ ap hasNext control in
+    let given : c .before .before .before .before .if1 .given ≡ nextByte p =
+    ⊎-elim
+    (λ t. rw (sym looked ∙ t .0 .taken) (t .2 ∙ ap (λ (k : Control). getD xs (72 + k .next) 0) control ∙ sym (range-at 72 64 xs (p .control .next) (next-inside (p .control) (sym looked ∙ t .0 .taken)))))
+    (λ t. rw (sym looked ∙ t .0 .left) (t .1))
+    (c .before .before .before .before .if1 .came) in
+    let step : c .before .before .before .after-data .result ≡ dataStep (a .byte) (nextByte p) (p .control) =
+    c .before .before .before .after-data .ensures ∙ ap (λ (k : Control). dataStep (a .byte) (c .before .before .before .before .if1 .given) k) control ∙ ap (λ (g : ℕ). dataStep (a .byte) g (p .control)) given in
+    let kept = ap (λ (s : DataStep). s .kept) step in
+    let buffers : drop 8 (c .before .before .if2 .port) ≡ dataWritten (a .byte) p .request ++ p .response =
+    ⊎-elim
+    (λ t. rw (sym kept ∙ t .0 .taken) (ap (drop 8) (t .1 ∙ ap (λ (k : Control). set xs (8 + k .length) (a .byte)) control) ∙ byte-put 8 64 64 (p .control .length) (a .byte) xs long (kept-inside (a .byte) (nextByte p) (p .control) (sym kept ∙ t .0 .taken))))
+    (λ t. rw (sym kept ∙ t .0 .left) (ap (drop 8) (t .1) ∙ two-ranges 8 64 64 xs long))
+    (c .before .before .if2 .came) in (
+      c .put-control .ensures ∙ (λ i. controlBytes (step i .control) ++ buffers i),
+      ap (λ (s : DataStep). s .length) step,
+    )
 
 pub kcs-write-data-spec : {M : Type 1} → statement M
 kcs-write-data-spec =

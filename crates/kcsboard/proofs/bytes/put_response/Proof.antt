@@ -1,3 +1,12 @@
+-- `kcsboard::bytes::put_response` meets its contract.
+use mathlib.Core.Path.{_≡_, sym, ap, _∙_}
+use mathlib.Core.List.{List}
+use Prim.Native.Nat.{ℕ, _+_, _-_, _≤_}
+use native.Mathlib.Omega.{arith}
+use lib.ListN.{length}
+use borrow.Rule.Slice.PartMut.{putMid, midOf, mid-len}
+use Rattle.buffers.proofs.Each.{copy-whole}
+use Rattle.buffers.proofs.Replace.{part-back}
 use borrow.Author.Needs.{needs}
 use Rattle.kcsboard.proofs.bytes.put_response.Statement.{statement}
 use Rattle.kcsboard.proofs.bytes.put_response.Tie as tie
@@ -5,33 +14,34 @@ use Rattle.kcsboard.proofs.bytes.put_response.Reads as reads
 use Rattle.kcsboard.proofs.bytes.put_response.Lts as lts
 use Rattle.buffers.proofs.copy.Reads as copy-reads
 
--- src/bytes.rt:46:15
 add-end : tie.Need-add-end
 add-end c = search needs
 
--- src/bytes.rt:47:10
 sub-copy : tie.Need-sub-copy
 sub-copy c = search needs
 
--- src/bytes.rt:47:10
 part-copy-start : tie.Need-part-copy-start
 part-copy-start c = search needs
 
--- src/bytes.rt:47:10
 part-copy-end : tie.Need-part-copy-end
 part-copy-end c = search needs
 
--- src/bytes.rt:47:5
 copy-requires : tie.Need-copy-requires
 copy-requires c κs = search needs
 
--- src/bytes.rt:42:1
 same-length : tie.Need-same-length
 same-length c = search needs
 
--- src/bytes.rt:42:1
 returns : tie.Need-returns
-returns c = ?
+returns c =
+    let a = c .before .before .before .before .before .before .args in
+    let ys = a .response .now in
+    let xs = a .port .now in
+    let count : 72 + length ys - 72 ≡ length ys = omega arith in
+    let fits : 72 + length ys ≤ length xs = c .before .before .before .before .before .before .pre in
+    let room : length (midOf 72 (72 + length ys - 72) xs) ≡ length ys = mid-len 72 (72 + length ys) xs fits ∙ count in
+    let copied = c .before .before .copy .ensures ∙ copy-whole (midOf 72 (72 + length ys - 72) xs) ys (sym room) in
+    ap (λ (t : List ℕ). putMid 72 (72 + length ys - 72) xs t) copied ∙ part-back 72 (72 + length ys) xs ys (omega arith) (sym count)
 
 pub put-response-spec : {M : Type 1} → statement M
 put-response-spec =
