@@ -1,6 +1,6 @@
 -- C's bytes and the port that they stand for tell the same.
 use mathlib.Core.Path.{_≡_, refl, sym, ap, _∙_}
-use mathlib.Core.List.{List, [], _∷_, _++_}
+use mathlib.Core.List.{List, _∷_, _++_}
 use Prim.Native.Nat.{ℕ, suc, _≤_, _<_}
 use native.Mathlib.Omega.{arith}
 use lib.ListN.{length, getD, take, drop}
@@ -14,8 +14,8 @@ use Rattle.kcsboard.proofs.Places.{two-ranges}
 -- the first eight bytes are those of the controls that they stand for
 controls-first : (xs : List ℕ) → 8 ≤ length xs → controlBytes (controlOf xs) ++ drop 8 xs ≡ xs
 controls-first xs long =
-    sym
-    (next 0 (omega arith) (next 1 (omega arith) (next 2 (omega arith) (next 3 (omega arith) (next 4 (omega arith) (next 5 (omega arith) (next 6 (omega arith) (next 7 (omega arith) refl))))))))
+    sym (next 0 (omega arith) (next 1 (omega arith) (next 2 (omega arith) (next 3 (omega arith)
+    (next 4 (omega arith) (next 5 (omega arith) (next 6 (omega arith) (next 7 (omega arith) refl))))))))
   where
     next : (i : ℕ) {rest : List ℕ} → i < length xs → drop (suc i) xs ≡ rest → drop i xs ≡ getD xs i 0 ∷ rest
     next i inside e = drop-cons xs i 0 inside ∙ ap (λ (t : List ℕ). getD xs i 0 ∷ t) e

@@ -1,4 +1,6 @@
 // The parts of C's record among its bytes: eight controls, then 64 bytes of request and 64 of response.
+//
+// The record is lent here as a slice: of an array behind a reference the prover knows no length.
 use buffers::copy;
 use kcs::Control;
 ghost use mathlib.Core.Path.{_≡_};

@@ -30,10 +30,12 @@ output-of-requires c κs = search needs
 
 returns : tie.Need-returns
 returns c =
-    let xs = c .before .before .before .before .before .before .before .args .port .now in
+    let stepped = c .before .before in
+    let read = stepped .before .before in
+    let xs = read .before .before .before .args .port .now in
     let long : length xs ≡ 136 = search needs in
-    let control = c .before .before .before .before .control-of .ensures in
-    let next : c .before .before .after-read .result ≡ afterRead (controlOf xs) = c .before .before .after-read .ensures ∙ ap afterRead control in (
+    let control = read .control-of .ensures in
+    let next : stepped .after-read .result ≡ afterRead (controlOf xs) = stepped .after-read .ensures ∙ ap afterRead control in (
       c .before .put-control .ensures ∙ ap (λ (k : Control). controlBytes k ++ drop 8 xs) next ∙ controls-changed (afterRead (controlOf xs)) xs long,
       c .output-of .ensures ∙ ap outputOf control,
     )

@@ -30,17 +30,20 @@ is-taken-requires c κs = search needs
 
 returns : tie.Need-returns
 returns c =
-    let xs = c .before .before .before .before .before .before .args .port .now in
+    let read = c .before .before in
+    let a = read .before .before .before .before .args in
+    let xs = a .port .now in
     let long : length xs ≡ 136 = search needs in
-    let n = length (c .before .before .before .before .before .before .args .response .now) in
-    let refused = sym (c .before .is-taken .ensures ∙ ap (isTaken n) (c .before .before .control-of .ensures)) ∙ not-true _ (c .if1 .taken) in
+    let refused = sym (c .before .is-taken .ensures ∙ ap (isTaken (length (a .response .now))) (read .control-of .ensures)) ∙ not-true _ (c .if1 .taken) in
     rw refused (sym (round-trip .0 xs long), refl)
 
 put-response-requires : tie.Need-put-response-requires
 put-response-requires c κs =
-    let a = c .before .before .before .before .before .before .before .args in
+    let asked = c .before .before in
+    let read = asked .before in
+    let a = read .before .before .before .before .args in
     let long : length (a .port .now) ≡ 136 = search needs in
-    let short = taken-short (length (a .response .now)) (c .before .before .before .control-of .result) (sym (c .before .before .is-taken .ensures) ∙ not-false _ (c .before .if1 .left)) in
+    let short = taken-short (length (a .response .now)) (read .control-of .result) (sym (asked .is-taken .ensures) ∙ not-false _ (c .before .if1 .left)) in
     omega (arith, long, short)
 
 element-copy-out-first : tie.Need-element-copy-out-first
@@ -48,8 +51,11 @@ element-copy-out-first c = search needs
 
 cast-after-answer : tie.Need-cast-after-answer
 cast-after-answer c =
-    let a = c .before .before .before .before .before .before .before .before .before .before .args in
-    let short = taken-short (length (a .response .now)) (c .before .before .before .before .before .before .control-of .result) (sym (c .before .before .before .before .before .is-taken .ensures) ∙ not-false _ (c .before .before .before .before .if1 .left)) in
+    let taken = c .before .before .before .before in
+    let asked = taken .before in
+    let read = asked .before in
+    let a = read .before .before .before .before .args in
+    let short = taken-short (length (a .response .now)) (read .control-of .result) (sym (asked .is-taken .ensures) ∙ not-false _ (taken .if1 .left)) in
     omega (arith, short)
 
 after-answer-requires : tie.Need-after-answer-requires
@@ -60,26 +66,26 @@ put-control-requires c κs = search needs
 
 returns-2 : tie.Need-returns-2
 returns-2 c =
-    let a = c .before .before .before .before .before .before .before .before .before .before .before .before .args in
+    let copied = c .before .before .before .before in
+    let taken = copied .before .before in
+    let asked = taken .before in
+    let read = asked .before in
+    let a = read .before .before .before .before .args in
     let ys = a .response .now in
-    let xs = a .port .now in
     let n = length ys in
+    let xs = a .port .now in
     let p = portOf xs in
     let long : length xs ≡ 136 = search needs in
-    let control : c .before .before .before .before .before .before .before .before .control-of .result ≡ p .control = c .before .before .before .before .before .before .before .before .control-of .ensures in
-    let taken = sym (c .before .before .before .before .before .before .before .is-taken .ensures ∙ ap (isTaken n) control) ∙ not-false _ (c .before .before .before .before .before .before .if1 .left) in
-    let short = taken-short n (p .control) taken in
-    let put : c .before .before .before .before .put-response .last .0 ≡ replace 72 ys xs = c .before .before .before .before .put-response .ensures in
+    let control : read .control-of .result ≡ p .control = read .control-of .ensures in
+    let yes = sym (asked .is-taken .ensures ∙ ap (isTaken n) control) ∙ not-false _ (taken .if1 .left) in
+    let short = taken-short n (p .control) yes in
+    let put : copied .put-response .last .0 ≡ replace 72 ys xs = copied .put-response .ensures in
     let next : c .before .after-answer .result ≡ afterAnswer n (getD ys 0 0) (p .control) =
     c .before .after-answer .ensures
     ∙ (λ i. afterAnswer n (getD (put i) 72 0) (control i))
     ∙ first-put 72 ys xs (p .control) (omega (arith, long, short)) in
-    rw taken (
-      c .put-control .ensures
-          ∙ (λ i. controlBytes (next i) ++ drop 8 (put i))
-          ∙ ap (λ (t : List ℕ). controlBytes (afterAnswer n (getD ys 0 0) (p .control)) ++ t) (bytes-put 8 64 64 ys xs long short),
-      refl,
-    )
+    let buffers : drop 8 (copied .put-response .last .0) ≡ p .request ++ replace 0 ys (p .response) = ap (drop 8) put ∙ bytes-put 8 64 64 ys xs long short in
+    rw yes (c .put-control .ensures ∙ (λ i. controlBytes (next i) ++ buffers i), refl)
 
 pub kcs-respond-spec : {M : Type 1} → statement M
 kcs-respond-spec =

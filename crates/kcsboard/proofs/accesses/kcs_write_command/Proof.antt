@@ -26,10 +26,12 @@ put-control-requires c κs = search needs
 
 returns : tie.Need-returns
 returns c =
-    let a = c .before .before .before .before .before .before .args in
+    let read = c .before .before .before in
+    let a = read .before .before .before .args in
     let xs = a .port .now in
     let long : length xs ≡ 136 = search needs in
-    let next : c .before .after-command .result ≡ afterCommand (a .code) (controlOf xs) = c .before .after-command .ensures ∙ ap (afterCommand (a .code)) (c .before .before .before .control-of .ensures) in
+    let next : c .before .after-command .result ≡ afterCommand (a .code) (controlOf xs) =
+    c .before .after-command .ensures ∙ ap (afterCommand (a .code)) (read .control-of .ensures) in
     c .put-control .ensures ∙ ap (λ (k : Control). controlBytes k ++ drop 8 xs) next ∙ controls-changed (afterCommand (a .code) (controlOf xs)) xs long
 
 pub kcs-write-command-spec : {M : Type 1} → statement M

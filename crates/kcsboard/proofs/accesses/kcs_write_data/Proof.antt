@@ -40,7 +40,8 @@ add-given c = search needs
 
 element-copy-out-given : tie.Need-element-copy-out-given
 element-copy-out-given c =
-    let inside = next-inside (c .before .before .before .before .control-of .result) (sym (c .before .has-next .ensures) ∙ c .if1 .taken) in
+    let looked = c .before in
+    let inside = next-inside (looked .before .before .before .control-of .result) (sym (looked .has-next .ensures) ∙ c .if1 .taken) in
     omega (arith, inside)
 
 after-data-requires : tie.Need-after-data-requires
@@ -51,8 +52,10 @@ add-port c = search needs
 
 element-write-port : tie.Need-element-write-port
 element-write-port c =
-    let control = c .before .before .before .before .before .before .control-of .result in
-    let inside = kept-inside (c .before .before .before .before .before .before .before .before .before .args .byte) (c .before .before .if1 .given) control (sym (ap (λ (s : DataStep). s .kept) (c .before .after-data .ensures)) ∙ c .if2 .taken) in
+    let given = c .before .before in
+    let read = given .before .before .before .before in
+    let kept = sym (ap (λ (s : DataStep). s .kept) (c .before .after-data .ensures)) ∙ c .if2 .taken in
+    let inside = kept-inside (read .before .before .before .args .byte) (given .if1 .given) (read .control-of .result) kept in
     omega (arith, inside)
 
 put-control-requires : tie.Need-put-control-requires
@@ -60,25 +63,35 @@ put-control-requires c κs = search needs
 
 returns : tie.Need-returns
 returns c =
-    let a = c .before .before .before .before .before .before .before .before .before .before .before .args in
+    let stored = c .before .before in
+    let stepped = stored .before in
+    let given = stepped .before in
+    let looked = given .before in
+    let read = looked .before .before .before in
+    let a = read .before .before .before .args in
     let xs = a .port .now in
-    let long : length xs ≡ 136 = search needs in
     let p = portOf xs in
-    let control : c .before .before .before .before .before .before .before .before .control-of .result ≡ p .control = c .before .before .before .before .before .before .before .before .control-of .ensures in
-    let looked : c .before .before .before .before .before .has-next .result ≡ hasNext (p .control) = c .before .before .before .before .before .has-next .ensures ∙ ap hasNext control in
-    let given : c .before .before .before .before .if1 .given ≡ nextByte p =
+    let long : length xs ≡ 136 = search needs in
+    let control : read .control-of .result ≡ p .control = read .control-of .ensures in
+    let more : looked .has-next .result ≡ hasNext (p .control) = looked .has-next .ensures ∙ ap hasNext control in
+    let byte : given .if1 .given ≡ nextByte p =
     ⊎-elim
-    (λ t. rw (sym looked ∙ t .0 .taken) (t .2 ∙ ap (λ (k : Control). getD xs (72 + k .next) 0) control ∙ sym (range-at 72 64 xs (p .control .next) (next-inside (p .control) (sym looked ∙ t .0 .taken)))))
-    (λ t. rw (sym looked ∙ t .0 .left) (t .1))
-    (c .before .before .before .before .if1 .came) in
-    let step : c .before .before .before .after-data .result ≡ dataStep (a .byte) (nextByte p) (p .control) =
-    c .before .before .before .after-data .ensures ∙ ap (λ (k : Control). dataStep (a .byte) (c .before .before .before .before .if1 .given) k) control ∙ ap (λ (g : ℕ). dataStep (a .byte) g (p .control)) given in
+    (λ t.
+    let inside = next-inside (p .control) (sym more ∙ t .0 .taken) in
+    rw (sym more ∙ t .0 .taken) (t .2 ∙ ap (λ (k : Control). getD xs (72 + k .next) 0) control ∙ sym (range-at 72 64 xs (p .control .next) inside)))
+    (λ t. rw (sym more ∙ t .0 .left) (t .1))
+    (given .if1 .came) in
+    let step : stepped .after-data .result ≡ dataStep (a .byte) (nextByte p) (p .control) =
+    stepped .after-data .ensures ∙ (λ i. dataStep (a .byte) (byte i) (control i)) in
     let kept = ap (λ (s : DataStep). s .kept) step in
-    let buffers : drop 8 (c .before .before .if2 .port) ≡ dataWritten (a .byte) p .request ++ p .response =
+    let buffers : drop 8 (stored .if2 .port) ≡ dataWritten (a .byte) p .request ++ p .response =
     ⊎-elim
-    (λ t. rw (sym kept ∙ t .0 .taken) (ap (drop 8) (t .1 ∙ ap (λ (k : Control). set xs (8 + k .length) (a .byte)) control) ∙ byte-put 8 64 64 (p .control .length) (a .byte) xs long (kept-inside (a .byte) (nextByte p) (p .control) (sym kept ∙ t .0 .taken))))
+    (λ t.
+    let inside = kept-inside (a .byte) (nextByte p) (p .control) (sym kept ∙ t .0 .taken) in
+    let put = t .1 ∙ ap (λ (k : Control). set xs (8 + k .length) (a .byte)) control in
+    rw (sym kept ∙ t .0 .taken) (ap (drop 8) put ∙ byte-put 8 64 64 (p .control .length) (a .byte) xs long inside))
     (λ t. rw (sym kept ∙ t .0 .left) (ap (drop 8) (t .1) ∙ two-ranges 8 64 64 xs long))
-    (c .before .before .if2 .came) in (
+    (stored .if2 .came) in (
       c .put-control .ensures ∙ (λ i. controlBytes (step i .control) ++ buffers i),
       ap (λ (s : DataStep). s .length) step,
     )

@@ -34,14 +34,14 @@ same-length c = search needs
 
 returns : tie.Need-returns
 returns c =
-    let a = c .before .before .before .before .before .before .args in
-    let ys = a .response .now in
-    let xs = a .port .now in
+    let copied = c .before .before in
+    let start = copied .before .before .before .before in
+    let ys = start .args .response .now in
+    let xs = start .args .port .now in
     let count : 72 + length ys - 72 ≡ length ys = omega arith in
-    let fits : 72 + length ys ≤ length xs = c .before .before .before .before .before .before .pre in
-    let room : length (midOf 72 (72 + length ys - 72) xs) ≡ length ys = mid-len 72 (72 + length ys) xs fits ∙ count in
-    let copied = c .before .before .copy .ensures ∙ copy-whole (midOf 72 (72 + length ys - 72) xs) ys (sym room) in
-    ap (λ (t : List ℕ). putMid 72 (72 + length ys - 72) xs t) copied ∙ part-back 72 (72 + length ys) xs ys (omega arith) (sym count)
+    let room : length (midOf 72 (72 + length ys - 72) xs) ≡ length ys = mid-len 72 (72 + length ys) xs (start .pre) ∙ count in
+    let whole = copied .copy .ensures ∙ copy-whole (midOf 72 (72 + length ys - 72) xs) ys (sym room) in
+    ap (putMid 72 (72 + length ys - 72) xs) whole ∙ part-back 72 (72 + length ys) xs ys (omega arith) (sym count)
 
 pub put-response-spec : {M : Type 1} → statement M
 put-response-spec =
