@@ -2,9 +2,11 @@ pub mod Looks
 pub mod Boxes
 pub mod Sending
 pub mod Writing
+pub mod Messages
 pub mod Receiving
 pub mod Reading
 pub mod Waiting
 pub mod Recovering
 pub mod Registers
 pub mod Naming
+pub mod Lengths

@@ -69,7 +69,7 @@ data-told phase room more byte =
     (λ _. chosen (λ e. Told e false 0x06) room _ _ (λ _. refl) (λ _. refl))
     (λ _. refl)
     (λ _.
-       chosen (λ e. Told e false 0x02) (eqb byte 0x68) _ _ (λ _. chosen (λ e. Told e false 0x02) more _ _ (λ _. refl) (λ _. refl)) (λ _. refl))
+    chosen (λ e. Told e false 0x02) (eqb byte 0x68) _ _ (λ _. chosen (λ e. Told e false 0x02) more _ _ (λ _. refl) (λ _. refl)) (λ _. refl))
     (λ _. chosen (λ e. Told e false 0x02) (eqb byte 0x00) _ _ (λ _. refl) (λ _. refl))
     refl
 
@@ -102,13 +102,13 @@ step-named (answer (byte ∷ rest)) p first older before =
     _
     _
     (λ _.
-       chosen
-       (λ (c : Control). c .fault ≡ named first older)
-       (eqb (length (byte ∷ rest)) 0)
-       _
-       _
-       (λ none. absurd (omega (arith, eqb-true (length (byte ∷ rest)) 0 none)))
-       (λ _. before))
+    chosen
+    (λ (c : Control). c .fault ≡ named first older)
+    (eqb (length (byte ∷ rest)) 0)
+    _
+    _
+    (λ none. absurd (omega (arith, eqb-true (length (byte ∷ rest)) 0 none)))
+    (λ _. before))
     (λ _. before)
 
 pub status-named : StatusNamed

@@ -50,10 +50,10 @@ module _ (response : List ℕ) (p : Port) (waits : phaseOf (p .control .phase) �
   pub answered-is
       : answered response p
       ≡ record {
-          control = afterAnswer (length response) (getD response 0 0) (p .control);
-          request = p .request;
-          response = replace 0 response (p .response);
-        }
+        control = afterAnswer (length response) (getD response 0 0) (p .control);
+        request = p .request;
+        response = replace 0 response (p .response);
+      }
   answered-is = rw (le-leb (length response) 64 fits, awaited (p .control .phase) waits)
 
 -- ---- the chart
@@ -67,20 +67,20 @@ module _
     (done : readTransfer turns (begin q) ≡ record { port = accessedAll made q; made = made; got = response; met = ends })
     (rests : (stateBits (phaseOf (accessedAll made q .control .phase)) ≡ 0) × (isSet (accessedAll made q .control .full) ≡ false))
     (gets : outOfAll made q ≡ response ++ (0x00 ∷ []))
-    where
-  read-of : Read response turns q
-  read-of =
-      let t = readTransfer turns (begin q) in
-      let port : t .port ≡ accessedAll made q = ap (λ (u : Transfer). u .port) done in
-      let all : t .made ≡ made = ap (λ (u : Transfer). u .made) done in
-      record {
-        chart = ap (λ (u : Transfer). u .met) done;
-        got = ap (λ (u : Transfer). u .got) done;
-        state = ap (λ (r : Port). stateSeen (statusRead r)) port ∙ state-seen (accessedAll made q) ∙ rests .0;
-        clear = ap (λ (r : Port). obfSeen (statusRead r)) port ∙ obf-seen (accessedAll made q) ∙ rests .1;
-        bytes = λ accesses makes. sym (counted-reads accesses q) ∙ ap (λ (l : List Access). outOfAll l q) (makes ∙ all) ∙ gets;
-        leaves = λ accesses makes. sym (counted-leaves accesses q) ∙ ap (λ (l : List Access). accessedAll l q) (makes ∙ all) ∙ sym port;
-      }
+  where
+    read-of : Read response turns q
+    read-of =
+        let t = readTransfer turns (begin q) in
+        let port : t .port ≡ accessedAll made q = ap (λ (u : Transfer). u .port) done in
+        let all : t .made ≡ made = ap (λ (u : Transfer). u .made) done in
+        record {
+          chart = ap (λ (u : Transfer). u .met) done;
+          got = ap (λ (u : Transfer). u .got) done;
+          state = ap (λ (r : Port). stateSeen (statusRead r)) port ∙ state-seen (accessedAll made q) ∙ rests .0;
+          clear = ap (λ (r : Port). obfSeen (statusRead r)) port ∙ obf-seen (accessedAll made q) ∙ rests .1;
+          bytes = λ accesses makes. sym (counted-reads accesses q) ∙ ap (λ (l : List Access). outOfAll l q) (makes ∙ all) ∙ gets;
+          leaves = λ accesses makes. sym (counted-leaves accesses q) ∙ ap (λ (l : List Access). accessedAll l q) (makes ∙ all) ∙ sym port;
+        }
 
 module _ (p : Port) where
   -- an empty response
@@ -105,12 +105,12 @@ module _ (p : Port) where
 
   behind : (byte : ℕ) (rest : List ℕ) → Left (p .control .length) (p .request) (replace 0 (byte ∷ rest) (p .response)) rest 1 (length (byte ∷ rest))
   behind byte rest = (
-      omega arith,
-      λ j below.
+    omega arith,
+    λ j below.
         let place : 1 + j ≡ suc j = omega arith in
         ap (λ (n : ℕ). getD (replace 0 (byte ∷ rest) (p .response)) n 0) place
         ∙ List·getD-append rest (drop (0 + length (byte ∷ rest)) (p .response)) 0 j below,
-    )
+  )
 
   some : (byte : ℕ) (rest : List ℕ) (turns : ℕ) → length (byte ∷ rest) ≤ 64 → length (byte ∷ rest) < turns → Read (byte ∷ rest) turns (shown byte rest)
   some byte rest turns fits enough =
@@ -123,8 +123,7 @@ module _ (p : Port) where
       turns
       (shown byte rest)
       (receiving rest)
-      (read-bytes (c .length) (p .request) stored rest (c .command) byte (c .fault) 1 (length (byte ∷ rest)) [] [] turns left fits (omega (arith, enough)))
-      (
+      (read-bytes (c .length) (p .request) stored rest (c .command) byte (c .fault) 1 (length (byte ∷ rest)) [] [] turns left fits (omega (arith, enough))) (
         ap (λ (r : Port). stateBits (phaseOf (r .control .phase))) rests,
         ap (λ (r : Port). isSet (r .control .full)) rests,
       )

@@ -18,7 +18,7 @@ abbrev pub giving : (phase command output fault length next end : ℕ) (request 
 giving phase command output fault length next end request response =
     record {
       control =
-        record { phase = phase; command = command; full = 1; output = output; fault = fault; length = length; next = next; end = end };
+          record { phase = phase; command = command; full = 1; output = output; fault = fault; length = length; next = next; end = end };
       request = request;
       response = response;
     }
@@ -79,22 +79,22 @@ module _ (length₀ : ℕ) (request response : List ℕ) where
 
   rest-left : (byte : ℕ) (left : List ℕ) (next end : ℕ) → Left (byte ∷ left) next end → Left left (next + 1) end
   rest-left byte left next end l = (
-      omega (arith, l .0),
-      λ j below.
+    omega (arith, l .0),
+    λ j below.
         let there : next + 1 + j ≡ next + suc j = omega arith in
         ap (λ (n : ℕ). getD response n 0) there ∙ l .1 (suc j) (omega (arith, below)),
-    )
+  )
 
   pub read-bytes
       : (left : List ℕ) (command output fault next end : ℕ) (made : List Access) (got : List ℕ) (turns : ℕ)
       → Left left next end → end ≤ 64 → suc (length left) < turns
       → readTransfer turns (at (giving 4 command output fault length₀ next end request response) made got)
       ≡ record {
-          port = accessedAll (receiving left) (giving 4 command output fault length₀ next end request response);
-          made = made ++ receiving left;
-          got = got ++ (output ∷ left);
-          met = ends;
-        }
+        port = accessedAll (receiving left) (giving 4 command output fault length₀ next end request response);
+        made = made ++ receiving left;
+        got = got ++ (output ∷ left);
+        met = ends;
+      }
   read-bytes left command output fault next end made got zero l inside enough = absurd (omega (arith, enough))
   read-bytes left command output fault next end made got (suc zero) l inside enough = absurd (omega (arith, enough))
   read-bytes [] command output fault next end made got (suc (suc turns)) l inside enough =
@@ -108,18 +108,18 @@ module _ (length₀ : ℕ) (request response : List ℕ) where
       let now = (made ++ (readData ∷ [])) ++ (writeData 0x68 ∷ []) in
       let p = giving 4 command output fault length₀ next end request response in
       let step
-          : dataWritten 0x68 (dataRead p) ≡ giving 4 0 byte fault length₀ (next + 1) end request response =
-          continues command output fault next end (omega (arith, l .0)) inside
-          ∙ ap (λ (b : ℕ). giving 4 0 b fault length₀ (next + 1) end request response) (first-left byte left next end l) in
+      : dataWritten 0x68 (dataRead p) ≡ giving 4 0 byte fault length₀ (next + 1) end request response =
+      continues command output fault next end (omega (arith, l .0)) inside
+      ∙ ap (λ (b : ℕ). giving 4 0 b fault length₀ (next + 1) end request response) (first-left byte left next end l) in
       turned command output fault next end made got (suc turns)
       ∙ ap (λ (q : Port). readTransfer (suc turns) (at q now (got ++ (output ∷ [])))) step
       ∙ read-bytes left 0 byte fault (next + 1) end now (got ++ (output ∷ [])) (suc turns) (rest-left byte left next end l) inside (omega (arith, enough))
       ∙ (λ i. record {
-           port = accessedAll (receiving left) (sym step i);
-           made = snoc made readData (writeData 0x68) (receiving left) i;
-           got = append-assoc got (output ∷ []) (byte ∷ left) i;
-           met = ends;
-         })
+        port = accessedAll (receiving left) (sym step i);
+        made = snoc made readData (writeData 0x68) (receiving left) i;
+        got = append-assoc got (output ∷ []) (byte ∷ left) i;
+        met = ends;
+      })
 
   -- the port that it leaves: idle, with OBF clear
   pub read-leaves

@@ -75,11 +75,11 @@ module _ (p : Port) where
   command-bit =
       record {
         command =
-          λ code.
+            λ code.
             command-seen (commandWritten code p)
             ∙ ap (λ (n : ℕ). cond (isSet n) 1 0) (command-kept (onCommand (phaseOf (p .control .phase)) code) 0x00 (withCommand 1 (p .control)));
         datum =
-          λ byte.
+            λ byte.
             command-seen (dataWritten byte p)
             ∙ ap (λ (n : ℕ). cond (isSet n) 1 0) (command-kept (dataEffect byte (p .control)) (nextByte p) (withCommand 0 (p .control)));
         read = command-seen (dataRead p) ∙ sym (command-seen p);
@@ -90,12 +90,12 @@ module _ (p : Port) where
   full-bit =
       record {
         command =
-          λ code.
+            λ code.
             obf-seen (commandWritten code p)
             ∙ full-after (onCommand (phaseOf (p .control .phase)) code) 0x00 (withCommand 1 (p .control))
             ∙ ap not (not-last (p .control .phase) code);
         datum =
-          λ byte.
+            λ byte.
             obf-seen (dataWritten byte p)
             ∙ full-after (dataEffect byte (p .control)) (nextByte p) (withCommand 0 (p .control))
             ∙ told-as (isLast (dataEffect byte (p .control))) (p .control .length);
@@ -119,11 +119,11 @@ taken-as-said p =
       sixtyOne = state-seen (commandWritten 0x61 p);
       sixtyTwo = λ writes. state-seen (commandWritten 0x62 p) ∙ ap (λ (q : Phase). stateBits (phaseOf (left (onEnd q) 0x00 c .phase))) writes;
       sixtyTwoElsewhere =
-        λ other.
+          λ other.
           state-seen (commandWritten 0x62 p)
           ∙ ap (λ (e : Effect). stateBits (phaseOf (left e 0x00 c .phase))) (no-end n (λ one. other (ap phaseOf one)));
       others =
-        λ code no₀ no₁ no₂.
+          λ code no₀ no₁ no₂.
           let wrong : onCommand (phaseOf n) code ≡ WrongCode = rw (ne-eqb code 0x60 no₀, ne-eqb code 0x61 no₁, ne-eqb code 0x62 no₂) in
           state-seen (commandWritten code p) ∙ ap (λ (e : Effect). stateBits (phaseOf (left e 0x00 c .phase))) wrong;
     }
@@ -138,27 +138,27 @@ clear-read p clear =
     let none : isSet (p .control .full) ≡ false = sym (obf-seen p) ∙ clear in (
       rw none,
       λ i.
-        record {
-          control =
-            record {
-              phase = p .control .phase;
-              command = p .control .command;
-              full = sym (unset (p .control .full) none) i;
-              output = p .control .output;
-              fault = p .control .fault;
-              length = p .control .length;
-              next = p .control .next;
-              end = p .control .end;
-            };
-          request = p .request;
-          response = p .response;
-        },
+          record {
+            control =
+                record {
+                  phase = p .control .phase;
+                  command = p .control .command;
+                  full = sym (unset (p .control .full) none) i;
+                  output = p .control .output;
+                  fault = p .control .fault;
+                  length = p .control .length;
+                  next = p .control .next;
+                  end = p .control .end;
+                };
+            request = p .request;
+            response = p .response;
+          },
     )
 
 untaken : (response : List ℕ) (p : Port) → answers response p ≡ false → (answers response p ≡ false) × (answered response p ≡ p)
 untaken response p refused = (refused, rw refused)
 
-both-fail : (a b : Bool) → b ≡ false → (a && b) ≡ false
+pub both-fail : (a b : Bool) → b ≡ false → (a && b) ≡ false
 both-fail true b e = e
 both-fail false b e = refl
 
@@ -168,5 +168,5 @@ refused-answer response p why =
     (⊎-elim
     (λ (long : 64 < length response). ap (λ (t : Bool). t && eqb (p .control .phase) 3) (lt-leb (length response) 64 long))
     (λ (other : phaseOf (p .control .phase) ≡ awaiting → ⊥).
-       both-fail (leb (length response) 64) (eqb (p .control .phase) 3) (ne-eqb (p .control .phase) 3 (λ three. other (ap phaseOf three))))
+    both-fail (leb (length response) 64) (eqb (p .control .phase) 3) (ne-eqb (p .control .phase) 3 (λ three. other (ap phaseOf three))))
     why)

@@ -22,16 +22,16 @@ abbrev pub port : (phase command full : ℕ) (sent tail : List ℕ) (next end : 
 port phase command full sent tail next end response =
     record {
       control =
-        record { phase = phase; command = command; full = full; output = 0; fault = 1; length = length sent; next = next; end = end };
+          record { phase = phase; command = command; full = full; output = 0; fault = 1; length = length sent; next = next; end = end };
       request = sent ++ tail;
       response = response;
     }
 
 -- one byte more
-one-more : (sent : List ℕ) (byte : ℕ) → length sent + 1 ≡ length (sent ++ (byte ∷ []))
+pub one-more : (sent : List ℕ) (byte : ℕ) → length sent + 1 ≡ length (sent ++ (byte ∷ []))
 one-more sent byte = sym (length-append sent (byte ∷ []))
 
-put-behind : (sent tail : List ℕ) (byte : ℕ) → replace (length sent) (byte ∷ []) (sent ++ tail) ≡ (sent ++ (byte ∷ [])) ++ drop 1 tail
+pub put-behind : (sent tail : List ℕ) (byte : ℕ) → replace (length sent) (byte ∷ []) (sent ++ tail) ≡ (sent ++ (byte ∷ [])) ++ drop 1 tail
 put-behind sent tail byte =
     ap (λ (front : List ℕ). front ++ ((byte ∷ []) ++ drop (length sent + 1) (sent ++ tail))) (take-at sent tail (length sent) refl)
     ∙ ap (λ (back : List ℕ). sent ++ ((byte ∷ []) ++ back)) (drop-append-add sent tail 1)
@@ -42,12 +42,12 @@ module _ (command : ℕ) (sent tail : List ℕ) (next end : ℕ) (response : Lis
   kept =
       rw (lt-ltb (length sent) 64 room)
       (λ i.
-         record {
-           control =
-             record { phase = 1; command = 0; full = 1; output = 0; fault = 1; length = one-more sent byte i; next = next; end = end };
-           request = put-behind sent tail byte i;
-           response = response;
-         })
+      record {
+        control =
+            record { phase = 1; command = 0; full = 1; output = 0; fault = 1; length = one-more sent byte i; next = next; end = end };
+        request = put-behind sent tail byte i;
+        response = response;
+      })
 
   none-handed : handed (writeData byte) (dataRead (port 1 command 1 sent tail next end response)) ≡ []
   none-handed = rw (lt-ltb (length sent) 64 room)
@@ -56,12 +56,12 @@ module _ (command : ℕ) (sent tail : List ℕ) (next end : ℕ) (response : Lis
   completed =
       rw (lt-ltb (length sent) 64 room)
       (λ i.
-         record {
-           control =
-             record { phase = 3; command = 0; full = 0; output = 0; fault = 1; length = one-more sent byte i; next = next; end = end };
-           request = put-behind sent tail byte i;
-           response = response;
-         })
+      record {
+        control =
+            record { phase = 3; command = 0; full = 0; output = 0; fault = 1; length = one-more sent byte i; next = next; end = end };
+        request = put-behind sent tail byte i;
+        response = response;
+      })
 
   told : lengthTold byte (dataRead (port 2 command 1 sent tail next end response)) ≡ length (sent ++ (byte ∷ []))
   told = rw (lt-ltb (length sent) 64 room) (one-more sent byte)
@@ -113,12 +113,12 @@ module _ (next end : ℕ) (response : List ℕ) (got : List ℕ) where
       ∙ cleared (does (writeData last) (leaves ends)) u refl
       ∙ ap
       (λ (all : List Access).
-         record {
-           port = dataWritten last (dataRead (port 2 1 1 sent tail next end response));
-           made = all;
-           got = got;
-           met = ends;
-         })
+      record {
+        port = dataWritten last (dataRead (port 2 1 1 sent tail next end response));
+        made = all;
+        got = got;
+        met = ends;
+      })
       (append-assoc ((made ++ (readData ∷ [])) ++ (writeCommand 0x62 ∷ [])) (readData ∷ []) (writeData last ∷ [])
       ∙ snoc made readData (writeCommand 0x62) (readData ∷ writeData last ∷ []))
   write-bytes byte (more ∷ rest) command sent tail made fits =
@@ -133,11 +133,11 @@ module _ (next end : ℕ) (response : List ℕ) (got : List ℕ) where
       ∙ ap (λ (r : Port). writeBytes (more ∷ rest) (at r now got)) same
       ∙ write-bytes more rest 0 (sent ++ (byte ∷ [])) (drop 1 tail) now (omega (arith, fits, one-more sent byte))
       ∙ (λ i. record {
-           port = accessedAll (sending (more ∷ rest)) (sym same i);
-           made = snoc made readData (writeData byte) (sending (more ∷ rest)) i;
-           got = got;
-           met = ends;
-         })
+        port = accessedAll (sending (more ∷ rest)) (sym same i);
+        made = snoc made readData (writeData byte) (sending (more ∷ rest)) i;
+        got = got;
+        met = ends;
+      })
 
 module _ (next end : ℕ) (response : List ℕ) where
   pub sent-all

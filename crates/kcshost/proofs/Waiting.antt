@@ -29,10 +29,10 @@ read-waits (suc turns) p status some =
     let state : eqb (stateBits (phaseOf (p .control .phase))) 1 ≡ true = ap (λ (n : ℕ). eqb n 1) (sym (state-seen p)) ∙ ap (λ (s : ℕ). eqb (s / 64) 1) status in
     let clear : isSet (p .control .full) ≡ false = sym (obf-seen p) ∙ ap obfSeen status in
     let stays
-        : readTransfer (suc turns) (begin p) ≡ leaves waits (begin p) =
-        no-wait (ifReading (waitObf (byte-read turns)) conclude) (begin p)
-        ∙ reads (waitObf (byte-read turns)) conclude (begin p) state
-        ∙ still-waits (byte-read turns) (begin p) clear in
+    : readTransfer (suc turns) (begin p) ≡ leaves waits (begin p) =
+    no-wait (ifReading (waitObf (byte-read turns)) conclude) (begin p)
+    ∙ reads (waitObf (byte-read turns)) conclude (begin p) state
+    ∙ still-waits (byte-read turns) (begin p) clear in
     (ap (λ (t : Transfer). t .met) stays, ap (λ (t : Transfer). t .made) stays)
 
 pub read-goes-on : ReadGoesOn
@@ -50,12 +50,12 @@ empty-races turns p awaits =
     let broken = giving 6 0 0 2 (c .length) (c .next) (c .end) (p .request) (replace 0 [] (p .response)) in
     let t = at broken (readData ∷ writeData 0x68 ∷ []) (0 ∷ []) in
     let exits
-        : readOn (suc turns) (begin (answered [] p)) ≡ leaves errorExit t =
-        ap (λ (q : Port). readOn (suc turns) (begin q)) (answered-is [] p awaits (omega arith))
-        ∙ no-longer-waits (receive (does (writeData 0x68) (readTransfer (suc turns)))) (begin quiet) refl
-        ∙ no-wait (ifReading (waitObf (byte-read turns)) conclude) t
-        ∙ reads-no-more (waitObf (byte-read turns)) conclude t refl
-        ∙ unexpected (waitObf (does readData (leaves ends))) t 0 refl in
+    : readOn (suc turns) (begin (answered [] p)) ≡ leaves errorExit t =
+    ap (λ (q : Port). readOn (suc turns) (begin q)) (answered-is [] p awaits (omega arith))
+    ∙ no-longer-waits (receive (does (writeData 0x68) (readTransfer (suc turns)))) (begin quiet) refl
+    ∙ no-wait (ifReading (waitObf (byte-read turns)) conclude) t
+    ∙ reads-no-more (waitObf (byte-read turns)) conclude t refl
+    ∙ unexpected (waitObf (does readData (leaves ends))) t 0 refl in
     record {
       chart = ap (λ (u : Transfer). u .met) exits;
       got = ap (λ (u : Transfer). u .got) exits;

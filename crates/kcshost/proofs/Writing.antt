@@ -46,9 +46,9 @@ module _ (byte : ℕ) (bytes : List ℕ) (p : Port) (fits : length (byte ∷ byt
       no-wait (clearObf start) (begin p)
       ∙ ⊎-elim
       (λ (set : isSet (p .control .full) ≡ true).
-         cleared start (begin p) set ∙ clears ∙ ap (λ (t : Bool). after (opening t) (begin p)) (sym set))
+      cleared start (begin p) set ∙ clears ∙ ap (λ (t : Bool). after (opening t) (begin p)) (sym set))
       (λ (clear : isSet (p .control .full) ≡ false).
-         is-clear start (begin p) clear ∙ starts ∙ ap (λ (t : Bool). after (opening t) (begin p)) (sym clear))
+      is-clear start (begin p) clear ∙ starts ∙ ap (λ (t : Bool). after (opening t) (begin p)) (sym clear))
       (decided (isSet (p .control .full)))
 
   hands : (full : Bool) → Hands (byte ∷ bytes) (opening full) p
@@ -80,7 +80,7 @@ module _ (byte : ℕ) (bytes : List ℕ) (p : Port) (fits : length (byte ∷ byt
         status = ap (λ (q : Port). statusRead q) (written-port .1);
         phase = ap (λ (q : Port). phaseOf (q .control .phase)) (written-port .1);
         message =
-          λ accesses makes front back cut.
+            λ accesses makes front back cut.
             sym (counted-hands front p)
             ∙ hands (isSet (p .control .full)) (countedAll front) (countedAll back)
             (sym (counted-append front back) ∙ ap countedAll cut ∙ makes ∙ ap (λ (t : Transfer). t .made) made);

@@ -5,12 +5,12 @@ use mathlib.Core.Path.{_≡_}
 use mathlib.Core.Bool.{Bool, true, false, cond}
 use mathlib.Core.List.{List, [], _∷_, _++_}
 use mathlib.Core.Logic.{_⊎_}
-use lib.Dec.{eqb}
+use lib.Dec.{eqb, ltb}
 use lib.ListN.{length}
 use Rattle.kcs.specs.declared.Port.{Port}
 use Rattle.kcs.specs.Port.{Phase, idle, writing, ending, awaiting, reading, aborting, failed, phaseOf, fresh}
 use Rattle.kcs.specs.Accesses.{statusRead, byteRead, dataRead, commandWritten, dataWritten, lengthTold, answers, answered}
-use Rattle.kcshost.specs.Runs.{Access, readStatus, readData, writeCommand, writeData, accessedAll, handedAll, outOfAll, countedAll, isNone, Step, access, answer, stepped, steppedAll}
+use Rattle.kcshost.specs.Runs.{Access, readStatus, readData, writeCommand, writeData, accessedAll, handedAll, outOfAll, countedAll, isNone, Step, access, answer, stepped, steppedAll, handedIn}
 use Rattle.kcshost.specs.Host.{stateSeen, obfSeen, ends, errorExit, waits, Transfer, begin, seen, writeTransfer, readTransfer, readOn, recovery}
 
 -- a list of accesses is this host's, with status reads anywhere between
@@ -36,6 +36,56 @@ pub record Written (bytes : List ℕ) (p : Port) : Type 0 where
 
 abbrev pub PublishedWrite : Type 0
 PublishedWrite = (bytes : List ℕ) (p : Port) → 1 ≤ length bytes → length bytes ≤ 64 → Written bytes p
+
+-- ---- the message, of any host: what is handed over is what its writes alone tell
+
+-- how far a message has come: there is none, its bytes so far in the write phase that 61 opens, and those after 62
+pub data Request : Type 0 where
+  none : Request
+  opened closing : List ℕ → Request
+
+-- "62 once in the write phase that 61 opens"
+abbrev pub closed : Request → Request
+closed none = none
+closed (opened bytes) = closing bytes
+closed (closing bytes) = none
+
+-- a byte more, of "64 bytes" at most, and the last one
+abbrev pub added : ℕ → Request → Request
+added byte none = none
+added byte (opened bytes) = cond (ltb (length bytes) 64) (opened (bytes ++ (byte ∷ []))) none
+added byte (closing bytes) = none
+
+-- a step: any other command ends the phase; no read and no answer touches it
+abbrev pub requestAfter : Step → Request → Request
+requestAfter (access readStatus) r = r
+requestAfter (access readData) r = r
+requestAfter (access (writeCommand code)) r = cond (eqb code 0x61) (opened []) (cond (eqb code 0x62) (closed r) none)
+requestAfter (access (writeData byte)) r = added byte r
+requestAfter (answer response) r = r
+
+-- "A message is handed over with its last byte"
+abbrev pub completed : ℕ → Request → List (List ℕ)
+completed byte none = []
+completed byte (opened bytes) = []
+completed byte (closing bytes) = cond (ltb (length bytes) 64) ((bytes ++ (byte ∷ [])) ∷ []) []
+
+abbrev pub messageOf : Step → Request → List (List ℕ)
+messageOf (access readStatus) r = []
+messageOf (access readData) r = []
+messageOf (access (writeCommand code)) r = []
+messageOf (access (writeData byte)) r = completed byte r
+messageOf (answer response) r = []
+
+abbrev pub messagesOf : List Step → Request → List (List ℕ)
+messagesOf [] r = []
+messagesOf (step ∷ rest) r = messageOf step r ++ messagesOf rest (requestAfter step r)
+
+-- a port that is in no write phase hands over, in any steps, exactly the messages that the steps tell, in their order
+abbrev pub MessagesExact : Type 0
+MessagesExact =
+    (steps : List Step) (p : Port) → (phaseOf (p .control .phase) ≡ writing → ⊥) → (phaseOf (p .control .phase) ≡ ending → ⊥)
+    → handedIn steps p ≡ messagesOf steps none
 
 -- ---- the read
 
@@ -188,3 +238,12 @@ pub record CommandsTaken (p : Port) : Type 0 where
 
 abbrev pub TakenAsSaid : Type 0
 TakenAsSaid = (p : Port) → CommandsTaken p
+
+-- ---- the buffers
+
+-- a port's two buffers have 64 bytes each, and keep them: a record that C lends stands for such a port
+abbrev pub Long : Port → Type 0
+Long p = (length (p .request) ≡ 64) × (length (p .response) ≡ 64)
+
+abbrev pub StaysLong : Type 0
+StaysLong = (steps : List Step) (p : Port) → Long p → Long (steppedAll steps p)

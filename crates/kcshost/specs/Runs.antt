@@ -73,3 +73,12 @@ stepped (answer response) p = answered response p
 abbrev pub steppedAll : List Step → Port → Port
 steppedAll [] p = p
 steppedAll (step ∷ rest) p = steppedAll rest (stepped step p)
+
+-- the messages that steps hand over
+abbrev pub handedBy : Step → Port → List (List ℕ)
+handedBy (access a) p = handed a p
+handedBy (answer response) p = []
+
+abbrev pub handedIn : List Step → Port → List (List ℕ)
+handedIn [] p = []
+handedIn (step ∷ rest) p = handedBy step p ++ handedIn rest (stepped step p)

@@ -1,0 +1,30 @@
+-- C's calls follow the port that the record stands for.
+use mathlib.Core.Path.{_≡_, refl, ap, _∙_}
+use mathlib.Core.List.{List, [], _∷_, _++_}
+use Prim.Native.Nat.{ℕ}
+use native.Mathlib.Omega.{arith}
+use lib.ListN.{length, length-append}
+use Rattle.buffers.proofs.Replace.{range-length}
+use Rattle.kcs.specs.declared.Port.{Port}
+use Rattle.kcshost.specs.Runs.{Step, stepped, steppedAll}
+use Rattle.kcshost.specs.Claims.{Long}
+use Rattle.kcshost.proofs.Lengths.{stays-long}
+use Rattle.kcsboard.specs.Bytes.{controlBytes, portOf, bytesOf}
+use Rattle.kcsboard.specs.Follows.{called, calledAll, Follows}
+use Rattle.kcsboard.proofs.RoundTrip.{round-trip}
+
+bytes-long : (p : Port) → Long p → length (bytesOf p) ≡ 136
+bytes-long p l =
+    let both : length (p .request ++ p .response) ≡ 128 = length-append (p .request) (p .response) ∙ rw (l .0, l .1) in
+    length-append (controlBytes (p .control)) (p .request ++ p .response) ∙ omega (arith, both)
+
+port-long : (bytes : List ℕ) → length bytes ≡ 136 → Long (portOf bytes)
+port-long bytes e = (range-length 8 64 bytes (omega (arith, e)), range-length 72 64 bytes (omega (arith, e)))
+
+pub follows : Follows
+follows [] bytes e = (refl, e)
+follows (step ∷ rest) bytes e =
+    let long = stays-long (step ∷ []) (portOf bytes) (port-long bytes e) in
+    let same = round-trip .1 (stepped step (portOf bytes)) (long .0) (long .1) in
+    let later = follows rest (called step bytes) (bytes-long (stepped step (portOf bytes)) long) in
+    (later .0 ∙ ap (steppedAll rest) same, later .1)
