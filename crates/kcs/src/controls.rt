@@ -105,21 +105,21 @@ fn kept(control: Control, last: bool) -> DataStep
     if control.length >= 64 {
         return not_kept(refused(control, 6));
     }
-    let mut next = control;
-    next.length = control.length + 1;
+    let mut longer = control;
+    longer.length = control.length + 1;
     if !last {
         return DataStep {
-            control: showing(next, 1, 0),
+            control: showing(longer, 1, 0),
             kept: true,
             length: 0,
         };
     }
-    next.phase = 3;
-    next.full = 0;
+    longer.phase = 3;
+    longer.full = 0;
     DataStep {
-        control: next,
+        control: longer,
         kept: true,
-        length: next.length,
+        length: longer.length,
     }
 }
 

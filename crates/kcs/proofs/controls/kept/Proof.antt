@@ -18,8 +18,8 @@ not-kept-requires c κs = search needs
 returns : tie.Need-returns
 returns c given = rw (c .not-kept .ensures, c .before .refused .ensures, le-ltb (c .before .before .before .before .args .control .length) 64 (c .before .before .if1 .taken))
 
-add-next : tie.Need-add-next
-add-next c = search needs
+add-longer : tie.Need-add-longer
+add-longer c = search needs
 
 showing-requires : tie.Need-showing-requires
 showing-requires c κs = search needs
@@ -41,7 +41,7 @@ kept-spec =
     refused-requires
     not-kept-requires
     returns
-    add-next
+    add-longer
     showing-requires
     returns-2
     returns-3)
