@@ -10,3 +10,4 @@ pub mod Recovering
 pub mod Registers
 pub mod Naming
 pub mod Lengths
+pub mod Examples
