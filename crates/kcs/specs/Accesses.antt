@@ -75,7 +75,7 @@ isTaken n c = leb n 64 && eqb (c .phase) (numberOf awaiting)
 abbrev pub answers : List ℕ → Port → Bool
 answers response p = isTaken (length response) (p .control)
 
--- OBF is set on the first byte; "An empty response leads to idle with OBF set on 00". No response changes C/D#
+-- OBF is set on the first byte; "An empty response leads to idle with OBF set on 00", and what 60 tells is 00 "since idle". No response changes C/D#
 abbrev pub afterAnswer : (length first : ℕ) → Control → Control
 afterAnswer n first c = cond (eqb n 0) (showing idle 0x00 (withFault 0x00 c)) (showing reading first (withPlace 1 n c))
 

@@ -66,7 +66,7 @@ shown phase byte c =
 abbrev pub showing : Phase → ℕ → Control → Control
 showing phase = shown (numberOf phase)
 
--- OBF clear, in this phase; nobody sees the byte behind it, which stays (house)
+-- OBF clear, in this phase; nobody sees the byte behind it, which stays (decided)
 abbrev pub clearing : Phase → Control → Control
 clearing phase c =
     record {
@@ -97,7 +97,7 @@ abbrev pub withPlace : ℕ → ℕ → Control → Control
 withPlace next end c =
     record { phase = c .phase; command = c .command; full = c .full; output = c .output; fault = c .fault; length = c .length; next = next; end = end }
 
--- row by row. OBF: "a write that completes a message clears OBF, each other sets it, with 00 where the standard names no byte": it names the status and the
+-- row by row. After 00 the status is the only byte that is read: the response that may have been there is forgotten, so that 68 leads to idle. OBF: "a write that completes a message clears OBF, each other sets it, with 00 where the standard names no byte": it names the status and the
 -- response's bytes, and here the next one is given. The status that 60 tells: "that of the last error since idle or 61, otherwise 01 if 61 came since idle, else
 -- 00"; 60 itself forgets nothing. "Refusals: a wrong code (02), then a request beyond 64 bytes (06), both the error state, with that status after 60"
 abbrev pub left : Effect → (given : ℕ) → Control → Control
@@ -146,7 +146,7 @@ toldLength effect c = cond (isLast effect) (c .length + 1) 0
 abbrev pub stepOf : Effect → (given : ℕ) → Control → DataStep
 stepOf effect given c = record { control = left effect given c; kept = isKept effect; length = toldLength effect c }
 
--- those that keep none and tell none
+-- the same of an effect that keeps no byte and completes no message
 abbrev pub notKept : Control → DataStep
 notKept c = record { control = c; kept = false; length = 0 }
 

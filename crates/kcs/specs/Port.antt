@@ -10,7 +10,7 @@ use Rattle.kcs.specs.declared.Port.{Port}
 pub data Phase : Type 0 where
   -- "Interface is idle"
   idle : Phase
-  -- "the write phase that 61 opens", before 62 and after it
+  -- "the write phase that 61 opens": before 62, where it is taken once, and after it
   writing ending : Phase
   -- the message was handed over, and "a response is awaited"
   awaiting : Phase
@@ -21,7 +21,7 @@ pub data Phase : Type 0 where
   -- "the error state"
   failed : Phase
 
--- the phase of a number in the record: "Every host access in every state has one outcome", and a number that no access leaves is the error phase (house)
+-- the phase of a number in the record: "Every host access in every state has one outcome", and a number that no access leaves is the error phase (decided)
 abbrev pub phaseOf : ℕ → Phase
 phaseOf n =
     cond (eqb n 0) idle (cond (eqb n 1) writing (cond (eqb n 2) ending (cond (eqb n 3) awaiting (cond (eqb n 4) reading (cond (eqb n 5) aborting failed)))))
@@ -46,7 +46,7 @@ stateBits ending = 2
 stateBits aborting = 2
 stateBits failed = 3
 
--- a number that stands for a bit: 0 clear, any other set (house)
+-- a number that stands for a bit: 0 clear, any other set (decided)
 abbrev pub isSet : ℕ → Bool
 isSet n = not (eqb n 0)
 

@@ -3,14 +3,16 @@ use mathlib.Core.Path.{_≡_, refl, ap, _∙_}
 use mathlib.Core.List.{List, [], _∷_, _++_}
 use Prim.Native.Nat.{ℕ}
 use native.Mathlib.Omega.{arith}
-use lib.ListN.{length, length-append}
+use lib.ListN.{length, drop, length-append}
+use lib.Seq.{take-take}
 use Rattle.buffers.proofs.Replace.{range-length}
 use Rattle.kcs.specs.declared.Port.{Port}
-use Rattle.kcshost.specs.Runs.{Step, stepped, steppedAll}
-use Rattle.kcshost.specs.Claims.{Long}
+use Rattle.kcs.specs.Port.{fresh}
+use Rattle.kcshost.specs.Runs.{stepped, steppedAll}
+use Rattle.kcshost.specs.Rows.{Long}
 use Rattle.kcshost.proofs.Lengths.{stays-long}
 use Rattle.kcsboard.specs.Bytes.{controlBytes, portOf, bytesOf}
-use Rattle.kcsboard.specs.Follows.{called, calledAll, Follows}
+use Rattle.kcsboard.specs.Follows.{called, Follows, FreshFollows, MessageBytes}
 use Rattle.kcsboard.proofs.RoundTrip.{round-trip}
 
 bytes-long : (p : Port) → Long p → length (bytesOf p) ≡ 136
@@ -28,3 +30,10 @@ follows (step ∷ rest) bytes e =
     let same = round-trip .1 (stepped step (portOf bytes)) (long .0) (long .1) in
     let later = follows rest (called step bytes) (bytes-long (stepped step (portOf bytes)) long) in
     (later .0 ∙ ap (steppedAll rest) same, later .1)
+
+pub fresh-follows : FreshFollows
+unfolding fresh
+fresh-follows = refl
+
+pub message-bytes : MessageBytes
+message-bytes n bytes few = take-take n 64 (drop 8 bytes) few

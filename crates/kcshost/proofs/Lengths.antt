@@ -1,19 +1,17 @@
 -- Both buffers keep their 64 bytes.
-use mathlib.Core.Path.{_≡_, ap, _∙_}
-use mathlib.Core.Bool.{true}
+use mathlib.Core.Path.{_≡_, _∙_}
 use mathlib.Core.List.{List, [], _∷_}
 use Prim.Native.Nat.{ℕ}
 use native.Mathlib.Omega.{arith}
 use lib.ListN.{length}
 use Rattle.units.proofs.Cases.{chosen}
-use Rattle.buffers.specs.Ranges.{replace}
 use Rattle.buffers.proofs.Replace.{replace-length}
 use Rattle.kcs.specs.declared.Port.{Port}
 use Rattle.kcs.specs.Effects.{dataStep}
-use Rattle.kcs.specs.Accesses.{nextByte, dataWritten, answers, answered}
+use Rattle.kcs.specs.Accesses.{nextByte, answers}
 use Rattle.kcs.proofs.Taking.{kept-inside, taken-short}
-use Rattle.kcshost.specs.Runs.{readStatus, readData, writeCommand, writeData, Step, access, answer, stepped, steppedAll}
-use Rattle.kcshost.specs.Claims.{Long, StaysLong}
+use Rattle.kcshost.specs.Runs.{readStatus, readData, writeCommand, writeData, Step, access, answer, stepped}
+use Rattle.kcshost.specs.Rows.{Long, StaysLong}
 
 step-long : (step : Step) (p : Port) → Long p → Long (stepped step p)
 step-long (access readStatus) p l = l

@@ -1,13 +1,14 @@
 pub mod Looks
 pub mod Boxes
+pub mod Registers
 pub mod Sending
 pub mod Writing
 pub mod Messages
 pub mod Receiving
 pub mod Reading
 pub mod Waiting
-pub mod Recovering
-pub mod Registers
 pub mod Naming
+pub mod Recovering
+pub mod Rows
 pub mod Lengths
 pub mod Examples

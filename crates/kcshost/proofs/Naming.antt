@@ -12,11 +12,10 @@ use Rattle.kcs.specs.declared.Control.{Control}
 use Rattle.kcs.specs.declared.Port.{Port}
 use Rattle.kcs.specs.Port.{phaseOf, stateBits}
 use Rattle.kcs.specs.Effects.{Effect, Opens, Closes, Aborts, Keeps, Completes, Tells, Continues, Finishes, WrongCode, TooLong, onEnd, onCommand, onData, hasRoom, hasNext, dataEffect, left, withCommand}
-use Rattle.kcs.specs.Accesses.{statusRead, commandWritten, nextByte, dataWritten, answers, answered}
+use Rattle.kcs.specs.Accesses.{commandWritten, nextByte, dataWritten, answers}
 use Rattle.kcs.proofs.Phases.{each-phase}
-use Rattle.kcshost.specs.Host.{stateSeen}
 use Rattle.kcshost.specs.Runs.{readStatus, readData, writeCommand, writeData, Step, access, answer, stepped, steppedAll}
-use Rattle.kcshost.specs.Claims.{Mark, rested, passed, ofWrite, dataFault, markOf, marksOf, named, StatusNamed}
+use Rattle.kcshost.specs.History.{Mark, rested, passed, ofWrite, dataFault, markOf, marksOf, named, StatusNamed}
 use Rattle.kcshost.proofs.Boxes.{state-seen}
 
 -- what an effect must be told of its write: whether it is 61, and the status of its refusal

@@ -1,20 +1,20 @@
 -- The published read of an answer, whole; the exchange; and where an answer meets a host that waits for it.
 use mathlib.Core.Path.{_≡_, refl, sym, ap, subst, _∙_}
-use mathlib.Core.Bool.{Bool, true, false, cond, false≢true}
+use mathlib.Core.Bool.{Bool, true, false, false≢true}
 use mathlib.Core.List.{List, [], _∷_, _++_}
 use Prim.Native.Nat.{ℕ, zero, suc, _+_, _≤_, _<_}
 use native.Mathlib.Omega.{arith}
-use lib.Dec.{eqb, leb}
+use lib.Dec.{eqb}
 use lib.ListN.{length, getD, drop, List·getD-append}
 use borrow.Author.Tests.{le-leb, eq-eqb, ne-eqb}
 use Rattle.buffers.specs.Ranges.{replace}
 use Rattle.kcs.specs.declared.Port.{Port}
 use Rattle.kcs.specs.Port.{Phase, idle, writing, ending, awaiting, reading, aborting, failed, phaseOf, stateBits, isSet}
-use Rattle.kcs.specs.Accesses.{statusRead, dataRead, afterAnswer, answered}
+use Rattle.kcs.specs.Accesses.{statusRead, afterAnswer, answered}
 use Rattle.kcs.proofs.Phases.{each-phase}
 use Rattle.kcshost.specs.Runs.{Access, readData, accessedAll, outOfAll}
 use Rattle.kcshost.specs.Host.{stateSeen, obfSeen, ends, Transfer, begin, writeTransfer, readTransfer}
-use Rattle.kcshost.specs.Claims.{Read, PublishedRead, PublishedExchange}
+use Rattle.kcshost.specs.Transfers.{Read, PublishedRead, PublishedExchange}
 use Rattle.kcshost.proofs.Looks.{counted-leaves, counted-reads}
 use Rattle.kcshost.proofs.Boxes.{state-seen, obf-seen}
 use Rattle.kcshost.proofs.Writing.{published-write}
@@ -84,7 +84,7 @@ module _
 
 module _ (p : Port) where
   -- an empty response
-  abbrev quiet : Port
+  abbrev pub quiet : Port
   quiet = giving 0 (p .control .command) 0 0 (p .control .length) (p .control .next) (p .control .end) (p .request) (replace 0 [] (p .response))
 
   empty : (turns : ℕ) → Read [] (suc turns) quiet
@@ -99,7 +99,7 @@ module _ (p : Port) where
       refl
 
   -- a response of one byte or more
-  abbrev shown : ℕ → List ℕ → Port
+  abbrev pub shown : ℕ → List ℕ → Port
   shown byte rest =
       giving 4 (p .control .command) byte (p .control .fault) (p .control .length) 1 (length (byte ∷ rest)) (p .request) (replace 0 (byte ∷ rest) (p .response))
 
@@ -129,15 +129,17 @@ module _ (p : Port) where
       )
       (read-gets (c .length) (p .request) stored rest (c .command) byte (c .fault) 1 (length (byte ∷ rest)) left fits)
 
+pub answered-some
+    : (byte : ℕ) (rest : List ℕ) (p : Port) → phaseOf (p .control .phase) ≡ awaiting → length (byte ∷ rest) ≤ 64 → answered (byte ∷ rest) p ≡ shown p byte rest
+answered-some byte rest p waits fits =
+    let has : eqb (length (byte ∷ rest)) 0 ≡ false = ne-eqb (length (byte ∷ rest)) 0 (λ e. omega (arith, e)) in
+    answered-is (byte ∷ rest) p waits fits ∙ rw has
+
 pub published-read : PublishedRead
 published-read response zero p waits fits enough = absurd (omega (arith, enough))
 published-read [] (suc turns) p waits fits enough = subst (λ (q : Port). Read [] (suc turns) q) (sym (answered-is [] p waits fits)) (empty p turns)
 published-read (byte ∷ rest) (suc turns) p waits fits enough =
-    let has : eqb (length (byte ∷ rest)) 0 ≡ false = ne-eqb (length (byte ∷ rest)) 0 (λ e. omega (arith, e)) in
-    subst
-    (λ (q : Port). Read (byte ∷ rest) (suc turns) q)
-    (sym (answered-is (byte ∷ rest) p waits fits))
-    (rw has (some p byte rest (suc turns) fits enough))
+    subst (λ (q : Port). Read (byte ∷ rest) (suc turns) q) (sym (answered-some byte rest p waits fits)) (some p byte rest (suc turns) fits enough)
 
 -- ---- the exchange
 

@@ -1,6 +1,5 @@
 -- The published read: the port that gives a response, byte by byte.
 use mathlib.Core.Path.{_≡_, refl, sym, ap, _∙_}
-use mathlib.Core.Bool.{true, false}
 use mathlib.Core.List.{List, [], _∷_, _++_, append-assoc}
 use Prim.Native.Nat.{ℕ, zero, suc, _+_, _≤_, _<_}
 use native.Mathlib.Omega.{arith}
@@ -9,7 +8,7 @@ use borrow.Author.Tests.{lt-ltb, le-ltb}
 use Rattle.kcs.specs.declared.Port.{Port}
 use Rattle.kcs.specs.Accesses.{dataRead, dataWritten}
 use Rattle.kcshost.specs.Runs.{Access, readData, writeData, accessedAll, outOfAll}
-use Rattle.kcshost.specs.Host.{ends, Transfer, leaves, does, waitObf, receive, ifReading, conclude, readTransfer}
+use Rattle.kcshost.specs.Host.{ends, leaves, does, put, waitObf, receive, ifReading, conclude, readTransfer}
 use Rattle.kcshost.proofs.Boxes.{no-wait, as-expected, no-longer-waits, reads, reads-no-more}
 use Rattle.kcshost.proofs.Sending.{at, snoc}
 
@@ -48,7 +47,7 @@ module _ (length₀ : ℕ) (request response : List ℕ) where
       ≡ record { port = dataRead (giving 0 command 0 fault length₀ next end request response); made = made ++ (readData ∷ []); got = got; met = ends }
   concluded command fault next end made got turns =
       let t = at (giving 0 command 0 fault length₀ next end request response) made got in
-      let go = waitObf (receive (does (writeData 0x68) (λ u. readTransfer turns u))) in
+      let go = waitObf (receive (put (writeData 0x68) (λ u. readTransfer turns u))) in
       no-wait (ifReading go conclude) t
       ∙ reads-no-more go conclude t refl
       ∙ as-expected (waitObf (does readData (leaves ends))) t 0 refl
@@ -65,8 +64,12 @@ module _ (length₀ : ℕ) (request response : List ℕ) where
       (got ++ (output ∷ [])))
   turned command output fault next end made got turns =
       let t = at (giving 4 command output fault length₀ next end request response) made got in
-      let go = receive (does (writeData 0x68) (λ u. readTransfer turns u)) in
-      no-wait (ifReading (waitObf go) conclude) t ∙ reads (waitObf go) conclude t refl ∙ no-longer-waits go t refl
+      let go = receive (put (writeData 0x68) (λ u. readTransfer turns u)) in
+      let read = at (dataRead (giving 4 command output fault length₀ next end request response)) (made ++ (readData ∷ [])) (got ++ (output ∷ [])) in
+      no-wait (ifReading (waitObf go) conclude) t
+      ∙ reads (waitObf go) conclude t refl
+      ∙ no-longer-waits go t refl
+      ∙ no-wait (does (writeData 0x68) (λ u. readTransfer turns u)) read
 
   -- the bytes that are left stand in the response from the next place on
   abbrev pub Left : List ℕ → ℕ → ℕ → Type 0

@@ -4,12 +4,14 @@ use mathlib.Core.List.{List, [], _∷_}
 use Prim.Native.Nat.{ℕ}
 use native.Mathlib.Omega.{arith}
 use Rattle.kcs.specs.declared.Port.{Port}
+use Rattle.kcs.specs.Port.{fresh}
 use Rattle.kcs.specs.Accesses.{statusRead, dataRead}
-use Rattle.kcshost.specs.Runs.{Access, readData, writeCommand, writeData, accessedAll, outOfAll}
-use Rattle.kcshost.specs.Host.{ends, Transfer, begin, leaves, does, waitIbf, waitObf, clearObf, expect, receive, conclude, receiveStatus, requestStatus, recovery}
-use Rattle.kcshost.specs.Claims.{Recovered, PublishedRecovery}
+use Rattle.kcshost.specs.Runs.{Access, readData, writeCommand, writeData, accessedAll, outOfAll, steppedAll}
+use Rattle.kcshost.specs.Host.{ends, Transfer, begin, leaves, does, put, waitIbf, waitObf, clearObf, expect, receive, conclude, receiveStatus, requestStatus, recovery}
+use Rattle.kcshost.specs.Transfers.{Recovered, PublishedRecovery, RecoveryNamed}
 use Rattle.kcshost.proofs.Boxes.{no-wait, as-expected, cleared, no-longer-waits}
 use Rattle.kcshost.proofs.Looks.{counted-leaves, counted-reads}
+use Rattle.kcshost.proofs.Naming.{status-named}
 use Rattle.kcshost.proofs.Sending.{at}
 use Rattle.kcshost.proofs.Receiving.{giving, finishes}
 
@@ -46,15 +48,17 @@ module _ (p : Port) where
       let two = at told (writeCommand 0x60 ∷ readData ∷ writeData 0x00 ∷ []) [] in
       let five = writeCommand 0x60 ∷ readData ∷ writeData 0x00 ∷ readData ∷ writeData 0x68 ∷ [] in
       let three = at rested five (p .control .fault ∷ []) in
-      let read = receive (does (writeData 0x68) (waitIbf conclude)) in
+      let read = receive (put (writeData 0x68) (waitIbf conclude)) in
       let end = finishes (p .control .length) (p .request) (p .response) 0 (p .control .fault) (p .control .fault) (p .control .next) 0 (omega arith) in
       no-wait (does (writeCommand 0x60) requestStatus) (begin p)
-      ∙ no-wait (expect 2 (clearObf (does (writeData 0x00) receiveStatus))) one
-      ∙ as-expected (clearObf (does (writeData 0x00) receiveStatus)) one 2 refl
-      ∙ cleared (does (writeData 0x00) receiveStatus) one refl
+      ∙ no-wait (expect 2 (clearObf (put (writeData 0x00) receiveStatus))) one
+      ∙ as-expected (clearObf (put (writeData 0x00) receiveStatus)) one 2 refl
+      ∙ cleared (put (writeData 0x00) receiveStatus) one refl
+      ∙ no-wait (does (writeData 0x00) receiveStatus) (at (dataRead aborted) (writeCommand 0x60 ∷ readData ∷ []) [])
       ∙ no-wait (expect 1 (waitObf read)) two
       ∙ as-expected (waitObf read) two 1 refl
       ∙ no-longer-waits read two refl
+      ∙ no-wait (does (writeData 0x68) (waitIbf conclude)) (at (dataRead told) (writeCommand 0x60 ∷ readData ∷ writeData 0x00 ∷ readData ∷ []) (p .control .fault ∷ []))
       ∙ ap (λ (q : Port). waitIbf conclude (at q five (p .control .fault ∷ []))) end
       ∙ no-wait conclude three
       ∙ as-expected (waitObf (does readData (leaves ends))) three 0 refl
@@ -77,3 +81,7 @@ module _ (p : Port) where
 
 pub published-recovery : PublishedRecovery
 published-recovery = recovered
+
+pub recovery-named : RecoveryNamed
+unfolding fresh
+recovery-named steps = recovered (steppedAll steps fresh) .got ∙ ap (λ (s : ℕ). s ∷ []) (status-named steps fresh)

@@ -11,12 +11,11 @@ use borrow.Author.Tests.{eqb-true, ne-eqb, lt-leb, not-false}
 use Rattle.units.proofs.Cases.{chosen}
 use Rattle.kcs.specs.declared.Control.{Control}
 use Rattle.kcs.specs.declared.Port.{Port}
-use Rattle.kcs.specs.Port.{Phase, writing, awaiting, phaseOf, stateBits, isSet, fresh}
+use Rattle.kcs.specs.Port.{awaiting, phaseOf, isSet, fresh}
 use Rattle.kcs.specs.Effects.{Effect, Opens, Closes, Aborts, Keeps, Completes, Tells, Continues, Finishes, WrongCode, TooLong, onEnd, onCommand, dataEffect, left, isLast, withCommand}
 use Rattle.kcs.specs.Accesses.{dataRead, commandWritten, nextByte, dataWritten, answers, answered}
-use Rattle.kcs.proofs.Phases.{each-phase, no-end}
-use Rattle.kcshost.specs.Host.{stateSeen, obfSeen}
-use Rattle.kcshost.specs.Claims.{ClearRead, RefusedAnswer, StatusBits, CommandBit, FullBit, WritesShow, CommandsTaken, TakenAsSaid}
+use Rattle.kcs.proofs.Phases.{each-phase}
+use Rattle.kcshost.specs.Rows.{ClearRead, RefusedAnswer, StatusBits, CommandBit, FullBit, WritesShow, ReadAsSaid}
 use Rattle.kcshost.proofs.Boxes.{state-seen, command-seen, obf-seen, others-seen}
 
 -- ---- what an effect leaves
@@ -108,26 +107,6 @@ pub status-bits : StatusBits
 unfolding fresh
 status-bits = (refl, others-seen)
 
--- ---- which commands are taken
-
-pub taken-as-said : TakenAsSaid
-taken-as-said p =
-    let n = p .control .phase in
-    let c = withCommand 1 (p .control) in
-    record {
-      sixty = state-seen (commandWritten 0x60 p);
-      sixtyOne = state-seen (commandWritten 0x61 p);
-      sixtyTwo = λ writes. state-seen (commandWritten 0x62 p) ∙ ap (λ (q : Phase). stateBits (phaseOf (left (onEnd q) 0x00 c .phase))) writes;
-      sixtyTwoElsewhere =
-          λ other.
-          state-seen (commandWritten 0x62 p)
-          ∙ ap (λ (e : Effect). stateBits (phaseOf (left e 0x00 c .phase))) (no-end n (λ one. other (ap phaseOf one)));
-      others =
-          λ code no₀ no₁ no₂.
-          let wrong : onCommand (phaseOf n) code ≡ WrongCode = rw (ne-eqb code 0x60 no₀, ne-eqb code 0x61 no₁, ne-eqb code 0x62 no₂) in
-          state-seen (commandWritten code p) ∙ ap (λ (e : Effect). stateBits (phaseOf (left e 0x00 c .phase))) wrong;
-    }
-
 -- ---- what changes nothing
 
 unset : (n : ℕ) → isSet n ≡ false → n ≡ 0
@@ -155,7 +134,7 @@ clear-read p clear =
           },
     )
 
-untaken : (response : List ℕ) (p : Port) → answers response p ≡ false → (answers response p ≡ false) × (answered response p ≡ p)
+pub untaken : (response : List ℕ) (p : Port) → answers response p ≡ false → (answers response p ≡ false) × (answered response p ≡ p)
 untaken response p refused = (refused, rw refused)
 
 pub both-fail : (a b : Bool) → b ≡ false → (a && b) ≡ false
@@ -170,3 +149,14 @@ refused-answer response p why =
     (λ (other : phaseOf (p .control .phase) ≡ awaiting → ⊥).
     both-fail (leb (length response) 64) (eqb (p .control .phase) 3) (ne-eqb (p .control .phase) 3 (λ three. other (ap phaseOf three))))
     why)
+
+pub read-as-said : ReadAsSaid
+read-as-said p =
+    record {
+      clear = obf-seen (dataRead p);
+      state = state-seen (dataRead p) ∙ sym (state-seen p);
+      phase = refl;
+      fault = refl;
+      request = refl;
+      response = refl;
+    }

@@ -5,15 +5,15 @@ use mathlib.Core.List.{List, [], _∷_, _++_, append-assoc}
 use Prim.Native.Nat.{ℕ, _+_, _≤_, _<_}
 use native.Mathlib.Omega.{arith}
 use lib.Dec.{eqb}
-use lib.ListN.{length, take, drop, length-append}
+use lib.ListN.{length, drop, length-append}
 use lib.Seq.{take-at, drop-append-add}
 use borrow.Author.Tests.{lt-ltb, ne-eqb}
 use Rattle.buffers.specs.Ranges.{replace}
 use Rattle.kcs.specs.declared.Port.{Port}
-use Rattle.kcs.specs.Accesses.{dataRead, commandWritten, dataWritten, lengthTold, message}
+use Rattle.kcs.specs.Accesses.{dataRead, dataWritten, lengthTold, message}
 use Rattle.kcshost.specs.Runs.{Access, readData, writeCommand, writeData, accessed, accessedAll, handed, handedAll, isNone}
-use Rattle.kcshost.specs.Host.{goes, ends, Transfer, leaves, does, waitIbf, clearObf, expect, writeBytes, writeTransfer, begin}
-use Rattle.kcshost.proofs.Boxes.{no-wait, as-expected, cleared, is-clear}
+use Rattle.kcshost.specs.Host.{goes, ends, Transfer, leaves, does, put, waitIbf, clearObf, expect, writeBytes}
+use Rattle.kcshost.proofs.Boxes.{no-wait, as-expected, cleared}
 
 -- ---- the port in the write phase, with the bytes that were sent at the front of the request
 
@@ -103,14 +103,19 @@ module _ (next end : ℕ) (response : List ℕ) (got : List ℕ) where
       ≡ after (sending (byte ∷ bytes)) (at (port 1 command 1 sent tail next end response) made got)
   write-bytes last [] command sent tail made fits =
       let t = at (port 1 command 1 sent tail next end response) made got in
-      let tell = clearObf (does (writeData last) (leaves ends)) in
+      let before = at (dataRead (port 1 command 1 sent tail next end response)) (made ++ (readData ∷ [])) got in
+      let tell = clearObf (put (writeData last) (leaves ends)) in
+      let close = waitIbf (expect 2 tell) in
       let u = at (port 2 1 1 sent tail next end response) ((made ++ (readData ∷ [])) ++ (writeCommand 0x62 ∷ [])) got in
-      no-wait (expect 2 (clearObf (does (writeCommand 0x62) (waitIbf (expect 2 tell))))) t
-      ∙ as-expected (clearObf (does (writeCommand 0x62) (waitIbf (expect 2 tell)))) t 2 refl
-      ∙ cleared (does (writeCommand 0x62) (waitIbf (expect 2 tell))) t refl
+      let last-before = at (dataRead (port 2 1 1 sent tail next end response)) (((made ++ (readData ∷ [])) ++ (writeCommand 0x62 ∷ [])) ++ (readData ∷ [])) got in
+      no-wait (expect 2 (clearObf (put (writeCommand 0x62) close))) t
+      ∙ as-expected (clearObf (put (writeCommand 0x62) close)) t 2 refl
+      ∙ cleared (put (writeCommand 0x62) close) t refl
+      ∙ no-wait (does (writeCommand 0x62) close) before
       ∙ no-wait (expect 2 tell) u
       ∙ as-expected tell u 2 refl
-      ∙ cleared (does (writeData last) (leaves ends)) u refl
+      ∙ cleared (put (writeData last) (leaves ends)) u refl
+      ∙ no-wait (does (writeData last) (leaves ends)) last-before
       ∙ ap
       (λ (all : List Access).
       record {
@@ -124,12 +129,13 @@ module _ (next end : ℕ) (response : List ℕ) (got : List ℕ) where
   write-bytes byte (more ∷ rest) command sent tail made fits =
       let p = port 1 command 1 sent tail next end response in
       let q = port 1 0 1 (sent ++ (byte ∷ [])) (drop 1 tail) next end response in
-      let goesOn = does (writeData byte) (λ u. writeBytes (more ∷ rest) u) in
+      let goesOn = put (writeData byte) (λ u. writeBytes (more ∷ rest) u) in
       let now = (made ++ (readData ∷ [])) ++ (writeData byte ∷ []) in
       let same : dataWritten byte (dataRead p) ≡ q = kept command sent tail next end response byte (omega (arith, fits)) in
       no-wait (expect 2 (clearObf goesOn)) (at p made got)
       ∙ as-expected (clearObf goesOn) (at p made got) 2 refl
       ∙ cleared goesOn (at p made got) refl
+      ∙ no-wait (does (writeData byte) (λ u. writeBytes (more ∷ rest) u)) (at (dataRead p) (made ++ (readData ∷ [])) got)
       ∙ ap (λ (r : Port). writeBytes (more ∷ rest) (at r now got)) same
       ∙ write-bytes more rest 0 (sent ++ (byte ∷ [])) (drop 1 tail) now (omega (arith, fits, one-more sent byte))
       ∙ (λ i. record {

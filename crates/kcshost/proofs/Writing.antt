@@ -1,21 +1,21 @@
 -- The published write, whole and from every port.
-use mathlib.Core.Path.{_≡_, refl, sym, ap, subst, _∙_}
+use mathlib.Core.Path.{_≡_, refl, sym, ap, _∙_}
 use mathlib.Core.Bool.{Bool, true, false, cond}
-use mathlib.Core.List.{List, [], _∷_, _++_}
+use mathlib.Core.List.{List, [], _∷_}
 use mathlib.Core.Logic.{⊎-elim}
 use Prim.Native.Nat.{ℕ, _≤_}
 use native.Mathlib.Omega.{arith}
 use lib.ListN.{length}
 use Rattle.units.proofs.Cases.{decided}
 use Rattle.kcs.specs.declared.Port.{Port}
-use Rattle.kcs.specs.Port.{awaiting, phaseOf, isSet}
-use Rattle.kcs.specs.Accesses.{statusRead, dataRead, commandWritten}
-use Rattle.kcshost.specs.Runs.{Access, readData, writeCommand, accessedAll, handedAll, countedAll, isNone}
-use Rattle.kcshost.specs.Host.{ends, Met, Transfer, begin, clearObf, does, writeBytes, writeTransfer}
-use Rattle.kcshost.specs.Claims.{Makes, HandsOver, Written, PublishedWrite}
+use Rattle.kcs.specs.Port.{phaseOf, isSet}
+use Rattle.kcs.specs.Accesses.{statusRead, dataRead}
+use Rattle.kcshost.specs.Runs.{Access, readData, writeCommand, accessedAll, countedAll}
+use Rattle.kcshost.specs.Host.{Transfer, begin, clearObf, does, put, writeBytes, writeTransfer}
+use Rattle.kcshost.specs.Transfers.{Makes, Written, PublishedWrite}
 use Rattle.kcshost.proofs.Boxes.{no-wait, cleared, is-clear}
 use Rattle.kcshost.proofs.Looks.{counted-leaves, counted-hands, counted-append}
-use Rattle.kcshost.proofs.Sending.{sending, after, port, Hands, hands-later, write-bytes, sent-all, sending-hands}
+use Rattle.kcshost.proofs.Sending.{sending, after, at, port, Hands, hands-later, write-bytes, sent-all, sending-hands}
 
 -- what a host that has made its accesses leaves, with status reads anywhere between
 pub looked-leaves
@@ -30,19 +30,21 @@ module _ (byte : ℕ) (bytes : List ℕ) (p : Port) (fits : length (byte ∷ byt
   opening : Bool → List Access
   opening full = cond full (readData ∷ writeCommand 0x61 ∷ sending (byte ∷ bytes)) (writeCommand 0x61 ∷ sending (byte ∷ bytes))
 
-  starts : does (writeCommand 0x61) (writeBytes (byte ∷ bytes)) (begin p) ≡ after (opening false) (begin p)
+  starts : put (writeCommand 0x61) (writeBytes (byte ∷ bytes)) (begin p) ≡ after (opening false) (begin p)
   unfolding opening
   starts =
-      write-bytes (p .control .next) (p .control .end) (p .response) [] byte bytes 1 [] (p .request) (writeCommand 0x61 ∷ []) (omega (arith, fits))
+      no-wait (does (writeCommand 0x61) (writeBytes (byte ∷ bytes))) (begin p)
+      ∙ write-bytes (p .control .next) (p .control .end) (p .response) [] byte bytes 1 [] (p .request) (writeCommand 0x61 ∷ []) (omega (arith, fits))
 
-  clears : does readData (does (writeCommand 0x61) (writeBytes (byte ∷ bytes))) (begin p) ≡ after (opening true) (begin p)
+  clears : does readData (put (writeCommand 0x61) (writeBytes (byte ∷ bytes))) (begin p) ≡ after (opening true) (begin p)
   unfolding opening
   clears =
-      write-bytes (p .control .next) (p .control .end) (p .response) [] byte bytes 1 [] (p .request) (readData ∷ writeCommand 0x61 ∷ []) (omega (arith, fits))
+      no-wait (does (writeCommand 0x61) (writeBytes (byte ∷ bytes))) (at (dataRead p) (readData ∷ []) [])
+      ∙ write-bytes (p .control .next) (p .control .end) (p .response) [] byte bytes 1 [] (p .request) (readData ∷ writeCommand 0x61 ∷ []) (omega (arith, fits))
 
   made : writeTransfer (byte ∷ bytes) (begin p) ≡ after (opening (isSet (p .control .full))) (begin p)
   made =
-      let start = does (writeCommand 0x61) (writeBytes (byte ∷ bytes)) in
+      let start = put (writeCommand 0x61) (writeBytes (byte ∷ bytes)) in
       no-wait (clearObf start) (begin p)
       ∙ ⊎-elim
       (λ (set : isSet (p .control .full) ≡ true).

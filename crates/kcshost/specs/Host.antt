@@ -1,5 +1,6 @@
--- The published host: its transfers box by box, as 001's flow charts (9.15, figures 9-6 to 9-8) and summaries (9.16 to 9.18) have them. It looks at the status
--- register before each access, and it goes by what it sees there alone.
+-- The published host: its transfers box by box. 001 has the summaries 9.16 to 9.18 and, in 9.15, the notes on the flow charts; the boxes between are those of the
+-- charts themselves, figures 9-6 to 9-8 of IPMI 2.0, which 001's text leaves out. The host goes by what it sees in the status register alone: IBF before each write
+-- (9.8, 9.9), OBF before each read (9.9), and the state where the charts ask for it.
 use Prim.Native.Nat.{ℕ, zero, suc, _/_, _%_}
 use mathlib.Core.Bool.{Bool, cond}
 use mathlib.Core.List.{List, [], _∷_, _++_}
@@ -24,7 +25,7 @@ obfSeen status = eqb (status % 2) 1
 
 -- ---- how far the host has come
 
--- it is on its way, or at the chart's end, or at its "error exit", or at a wait that nothing of its own can end
+-- it is on its way, or at the chart's end, or at its error exit, or at a wait that nothing of its own can end
 pub data Met : Type 0 where
   goes ends errorExit waits : Met
 
@@ -65,6 +66,10 @@ waitIbf next t = cond (ibfSeen (seen t)) (leaves waits t) (next t)
 abbrev pub waitObf : Chart → Chart
 waitObf next t = cond (obfSeen (seen t)) (next t) (leaves waits t)
 
+-- a write: the registers "must only be written from the system side when the IBF flag is clear"
+abbrev pub put : Access → Chart → Chart
+put access next = waitIbf (does access next)
+
 -- "If OBF=1, Clear OBF by reading Data_Out register"
 abbrev pub clearObf : Chart → Chart
 clearObf next t = cond (obfSeen (seen t)) (does readData next t) (next t)
@@ -87,12 +92,12 @@ receive next t = next record { port = accessed readData (t .port); made = t .mad
 abbrev pub writeBytes : List ℕ → Chart
 writeBytes [] t = leaves errorExit t
 writeBytes (last ∷ []) t =
-    waitIbf (expect 2 (clearObf (does (writeCommand 0x62) (waitIbf (expect 2 (clearObf (does (writeData last) (leaves ends)))))))) t
-writeBytes (byte ∷ more ∷ rest) t = waitIbf (expect 2 (clearObf (does (writeData byte) (λ u. writeBytes (more ∷ rest) u)))) t
+    waitIbf (expect 2 (clearObf (put (writeCommand 0x62) (waitIbf (expect 2 (clearObf (put (writeData last) (leaves ends)))))))) t
+writeBytes (byte ∷ more ∷ rest) t = waitIbf (expect 2 (clearObf (put (writeData byte) (λ u. writeBytes (more ∷ rest) u)))) t
 
--- the whole of it: "wait for IBF=0", OBF is cleared, and "Issue a 'WRITE_START' control code to the Command register"
+-- the whole of it: OBF is cleared, and "Issue a 'WRITE_START' control code to the Command register"
 abbrev pub writeTransfer : List ℕ → Chart
-writeTransfer bytes = waitIbf (clearObf (does (writeCommand 0x61) (writeBytes bytes)))
+writeTransfer bytes = waitIbf (clearObf (put (writeCommand 0x61) (writeBytes bytes)))
 
 -- IDLE_STATE, at the end of a read and of a recovery: "Read dummy data byte from DATA_OUT"
 abbrev pub conclude : Chart
@@ -102,20 +107,20 @@ conclude = expect 0 (waitObf (does readData (leaves ends)))
 -- many turns at most
 abbrev pub readTransfer : ℕ → Chart
 readTransfer zero t = t
-readTransfer (suc turns) t = waitIbf (ifReading (waitObf (receive (does (writeData 0x68) (λ u. readTransfer turns u)))) conclude) t
+readTransfer (suc turns) t = waitIbf (ifReading (waitObf (receive (put (writeData 0x68) (λ u. readTransfer turns u)))) conclude) t
 
 -- the same host where it stands at "wait for OBF=1", having seen READ_STATE before the controller answered
 abbrev pub readOn : ℕ → Chart
-readOn turns = waitObf (receive (does (writeData 0x68) (readTransfer turns)))
+readOn turns = waitObf (receive (put (writeData 0x68) (readTransfer turns)))
 
 -- 9.18, figure 9-8: "Conclude by writing READ to data register, wait for IBF=0. State should be IDLE"
 abbrev pub receiveStatus : Chart
-receiveStatus = waitIbf (expect 1 (waitObf (receive (does (writeData 0x68) (waitIbf conclude)))))
+receiveStatus = waitIbf (expect 1 (waitObf (receive (put (writeData 0x68) (waitIbf conclude)))))
 
 -- "Write 00h to data register, wait for IBF=0. State should now be READ_STATE", "Wait for OBF=1. Read status from Data_Out"
 abbrev pub requestStatus : Chart
-requestStatus = waitIbf (expect 2 (clearObf (does (writeData 0x00) receiveStatus)))
+requestStatus = waitIbf (expect 2 (clearObf (put (writeData 0x00) receiveStatus)))
 
 -- "Issue a 'GET_STATUS/ABORT' control code to the Command register. Wait for IBF=0. State should be WRITE_STATE", "If OBF=1, Clear OBF"
 abbrev pub recovery : Chart
-recovery = waitIbf (does (writeCommand 0x60) requestStatus)
+recovery = put (writeCommand 0x60) requestStatus

@@ -1,4 +1,6 @@
 pub mod Runs
 pub mod Host
-pub mod Claims
+pub mod History
+pub mod Transfers
+pub mod Rows
 pub mod Examples

@@ -3,8 +3,6 @@ use mathlib.Core.Path.{refl}
 use Rattle.kcs.specs.Port.{fresh}
 use Rattle.kcs.proofs.new_port.Statement.{statement}
 use Rattle.kcs.proofs.new_port.Tie as tie
-use Rattle.kcs.proofs.new_port.Reads as reads
-use Rattle.kcs.proofs.new_port.Lts as lts
 
 returns : tie.Need-returns
 unfolding fresh

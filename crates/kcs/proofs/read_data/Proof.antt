@@ -2,10 +2,6 @@
 use borrow.Author.Needs.{needs}
 use Rattle.kcs.proofs.read_data.Statement.{statement}
 use Rattle.kcs.proofs.read_data.Tie as tie
-use Rattle.kcs.proofs.read_data.Reads as reads
-use Rattle.kcs.proofs.read_data.Lts as lts
-use Rattle.kcs.proofs.controls.after_read.Reads as after-read-reads
-use Rattle.kcs.proofs.controls.output_of.Reads as output-of-reads
 
 output-of-requires : tie.Need-output-of-requires
 output-of-requires c κs = search needs

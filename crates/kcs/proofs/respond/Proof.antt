@@ -12,11 +12,6 @@ use Rattle.kcs.proofs.Taking.{taken-short, front-replaced, first-of}
 use borrow.Author.Needs.{needs}
 use Rattle.kcs.proofs.respond.Statement.{statement}
 use Rattle.kcs.proofs.respond.Tie as tie
-use Rattle.kcs.proofs.respond.Reads as reads
-use Rattle.kcs.proofs.respond.Lts as lts
-use Rattle.buffers.proofs.copy.Reads as copy-reads
-use Rattle.kcs.proofs.controls.after_answer.Reads as after-answer-reads
-use Rattle.kcs.proofs.controls.is_taken.Reads as is-taken-reads
 
 is-taken-requires : tie.Need-is-taken-requires
 is-taken-requires c κs = search needs

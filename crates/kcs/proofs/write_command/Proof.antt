@@ -2,9 +2,6 @@
 use borrow.Author.Needs.{needs}
 use Rattle.kcs.proofs.write_command.Statement.{statement}
 use Rattle.kcs.proofs.write_command.Tie as tie
-use Rattle.kcs.proofs.write_command.Reads as reads
-use Rattle.kcs.proofs.write_command.Lts as lts
-use Rattle.kcs.proofs.controls.after_command.Reads as after-command-reads
 
 after-command-requires : tie.Need-after-command-requires
 after-command-requires c κs = search needs

@@ -14,10 +14,6 @@ use Rattle.kcs.proofs.Taking.{next-inside, kept-inside, set-replaces}
 use borrow.Author.Needs.{needs}
 use Rattle.kcs.proofs.write_data.Statement.{statement}
 use Rattle.kcs.proofs.write_data.Tie as tie
-use Rattle.kcs.proofs.write_data.Reads as reads
-use Rattle.kcs.proofs.write_data.Lts as lts
-use Rattle.kcs.proofs.controls.after_data.Reads as after-data-reads
-use Rattle.kcs.proofs.controls.has_next.Reads as has-next-reads
 
 cast-at : tie.Need-cast-at
 cast-at c = search needs

@@ -4,9 +4,6 @@ use Rattle.kcsboard.specs.Bytes.{recordOf}
 use borrow.Author.Needs.{needs}
 use Rattle.kcsboard.proofs.kcs_fresh.Statement.{statement}
 use Rattle.kcsboard.proofs.kcs_fresh.Tie as tie
-use Rattle.kcsboard.proofs.kcs_fresh.Reads as reads
-use Rattle.kcsboard.proofs.kcs_fresh.Lts as lts
-use Rattle.kcs.proofs.new_port.Reads as new-port-reads
 
 new-port-requires : tie.Need-new-port-requires
 new-port-requires c κs = search needs

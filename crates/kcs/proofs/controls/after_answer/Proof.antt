@@ -3,9 +3,6 @@ use borrow.Author.Tests.{eq-eqb, ne-eqb}
 use borrow.Author.Needs.{needs}
 use Rattle.kcs.proofs.controls.after_answer.Statement.{statement}
 use Rattle.kcs.proofs.controls.after_answer.Tie as tie
-use Rattle.kcs.proofs.controls.after_answer.Reads as reads
-use Rattle.kcs.proofs.controls.after_answer.Lts as lts
-use Rattle.kcs.proofs.controls.showing.Reads as showing-reads
 
 showing-requires : tie.Need-showing-requires
 showing-requires c κs = search needs

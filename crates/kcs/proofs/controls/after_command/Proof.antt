@@ -5,10 +5,6 @@ use Rattle.kcs.proofs.Phases.{no-end}
 use borrow.Author.Needs.{needs}
 use Rattle.kcs.proofs.controls.after_command.Statement.{statement}
 use Rattle.kcs.proofs.controls.after_command.Tie as tie
-use Rattle.kcs.proofs.controls.after_command.Reads as reads
-use Rattle.kcs.proofs.controls.after_command.Lts as lts
-use Rattle.kcs.proofs.controls.refused.Reads as refused-reads
-use Rattle.kcs.proofs.controls.showing.Reads as showing-reads
 
 showing-requires : tie.Need-showing-requires
 showing-requires c κs = search needs

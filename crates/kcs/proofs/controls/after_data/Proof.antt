@@ -1,19 +1,11 @@
 -- `kcs::controls::after_data` meets its contract.
 use mathlib.Core.Path.{_≡_}
-use borrow.Author.Tests.{ne-eqb}
 use lib.Dec.{eqb}
 use Rattle.kcs.specs.Effects.{hasRoom, hasNext}
 use Rattle.kcs.proofs.Phases.{no-data, reading-step, aborting-step}
 use borrow.Author.Needs.{needs}
 use Rattle.kcs.proofs.controls.after_data.Statement.{statement}
 use Rattle.kcs.proofs.controls.after_data.Tie as tie
-use Rattle.kcs.proofs.controls.after_data.Reads as reads
-use Rattle.kcs.proofs.controls.after_data.Lts as lts
-use Rattle.kcs.proofs.controls.kept.Reads as kept-reads
-use Rattle.kcs.proofs.controls.not_kept.Reads as not-kept-reads
-use Rattle.kcs.proofs.controls.refused.Reads as refused-reads
-use Rattle.kcs.proofs.controls.while_aborting.Reads as while-aborting-reads
-use Rattle.kcs.proofs.controls.while_reading.Reads as while-reading-reads
 
 kept-requires : tie.Need-kept-requires
 kept-requires c κs = search needs

@@ -2,8 +2,6 @@
 use borrow.Author.Tests.{eq-eqb, ne-eqb}
 use Rattle.kcs.proofs.controls.bit.Statement.{statement}
 use Rattle.kcs.proofs.controls.bit.Tie as tie
-use Rattle.kcs.proofs.controls.bit.Reads as reads
-use Rattle.kcs.proofs.controls.bit.Lts as lts
 
 returns : tie.Need-returns
 returns c = rw (eq-eqb (c .before .args .number) 0 (c .if1 .taken))

@@ -2,8 +2,6 @@
 use borrow.Author.Tests.{lt-ltb, le-ltb}
 use Rattle.kcs.proofs.controls.has_next.Statement.{statement}
 use Rattle.kcs.proofs.controls.has_next.Tie as tie
-use Rattle.kcs.proofs.controls.has_next.Reads as reads
-use Rattle.kcs.proofs.controls.has_next.Lts as lts
 
 returns : tie.Need-returns
 returns c = rw (lt-ltb (c .before .before .before .args .control .next) (c .before .before .before .args .control .end) (c .before .if1 .taken))

@@ -2,8 +2,6 @@
 use borrow.Author.Tests.{le-leb, lt-leb}
 use Rattle.kcs.proofs.controls.is_taken.Statement.{statement}
 use Rattle.kcs.proofs.controls.is_taken.Tie as tie
-use Rattle.kcs.proofs.controls.is_taken.Reads as reads
-use Rattle.kcs.proofs.controls.is_taken.Lts as lts
 
 returns : tie.Need-returns
 returns c = rw (le-leb (c .before .before .args .length) 64 (c .before .if1 .taken))

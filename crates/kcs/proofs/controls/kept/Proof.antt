@@ -3,11 +3,6 @@ use borrow.Author.Tests.{lt-ltb, le-ltb, not-true, not-false}
 use borrow.Author.Needs.{needs}
 use Rattle.kcs.proofs.controls.kept.Statement.{statement}
 use Rattle.kcs.proofs.controls.kept.Tie as tie
-use Rattle.kcs.proofs.controls.kept.Reads as reads
-use Rattle.kcs.proofs.controls.kept.Lts as lts
-use Rattle.kcs.proofs.controls.not_kept.Reads as not-kept-reads
-use Rattle.kcs.proofs.controls.refused.Reads as refused-reads
-use Rattle.kcs.proofs.controls.showing.Reads as showing-reads
 
 refused-requires : tie.Need-refused-requires
 refused-requires c κs = search needs

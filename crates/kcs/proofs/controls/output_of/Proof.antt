@@ -2,8 +2,6 @@
 use borrow.Author.Tests.{eq-eqb, ne-eqb}
 use Rattle.kcs.proofs.controls.output_of.Statement.{statement}
 use Rattle.kcs.proofs.controls.output_of.Tie as tie
-use Rattle.kcs.proofs.controls.output_of.Reads as reads
-use Rattle.kcs.proofs.controls.output_of.Lts as lts
 
 returns : tie.Need-returns
 returns c = rw (eq-eqb (c .before .before .args .control .full) 0 (c .if1 .taken))

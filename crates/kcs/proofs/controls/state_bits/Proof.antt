@@ -4,8 +4,6 @@ use borrow.Author.Tests.{ne-eqb}
 use mathlib.Core.Path.{_≡_}
 use Rattle.kcs.proofs.controls.state_bits.Statement.{statement}
 use Rattle.kcs.proofs.controls.state_bits.Tie as tie
-use Rattle.kcs.proofs.controls.state_bits.Reads as reads
-use Rattle.kcs.proofs.controls.state_bits.Lts as lts
 
 returns : tie.Need-returns
 returns c =

@@ -5,10 +5,6 @@ use Rattle.kcs.proofs.Taking.{state-small, bit-small}
 use borrow.Author.Needs.{needs}
 use Rattle.kcs.proofs.controls.status_of.Statement.{statement}
 use Rattle.kcs.proofs.controls.status_of.Tie as tie
-use Rattle.kcs.proofs.controls.status_of.Reads as reads
-use Rattle.kcs.proofs.controls.status_of.Lts as lts
-use Rattle.kcs.proofs.controls.bit.Reads as bit-reads
-use Rattle.kcs.proofs.controls.state_bits.Reads as state-bits-reads
 
 state-bits-requires : tie.Need-state-bits-requires
 state-bits-requires c κs = search needs

@@ -3,10 +3,6 @@ use borrow.Author.Tests.{eq-eqb, ne-eqb}
 use borrow.Author.Needs.{needs}
 use Rattle.kcs.proofs.controls.while_aborting.Statement.{statement}
 use Rattle.kcs.proofs.controls.while_aborting.Tie as tie
-use Rattle.kcs.proofs.controls.while_aborting.Reads as reads
-use Rattle.kcs.proofs.controls.while_aborting.Lts as lts
-use Rattle.kcs.proofs.controls.refused.Reads as refused-reads
-use Rattle.kcs.proofs.controls.showing.Reads as showing-reads
 
 refused-requires : tie.Need-refused-requires
 refused-requires c κs = search needs

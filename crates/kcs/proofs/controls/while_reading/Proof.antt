@@ -10,11 +10,6 @@ use Rattle.kcs.specs.Effects.{hasNext}
 use borrow.Author.Tests.{ltb-true, eq-eqb, ne-eqb}
 use Rattle.kcs.proofs.controls.while_reading.Statement.{statement}
 use Rattle.kcs.proofs.controls.while_reading.Tie as tie
-use Rattle.kcs.proofs.controls.while_reading.Reads as reads
-use Rattle.kcs.proofs.controls.while_reading.Lts as lts
-use Rattle.kcs.proofs.controls.has_next.Reads as has-next-reads
-use Rattle.kcs.proofs.controls.refused.Reads as refused-reads
-use Rattle.kcs.proofs.controls.showing.Reads as showing-reads
 
 refused-requires : tie.Need-refused-requires
 refused-requires c κs = search needs

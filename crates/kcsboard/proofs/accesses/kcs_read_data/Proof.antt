@@ -9,12 +9,6 @@ use Rattle.kcsboard.proofs.Places.{controls-changed}
 use borrow.Author.Needs.{needs}
 use Rattle.kcsboard.proofs.accesses.kcs_read_data.Statement.{statement}
 use Rattle.kcsboard.proofs.accesses.kcs_read_data.Tie as tie
-use Rattle.kcsboard.proofs.accesses.kcs_read_data.Reads as reads
-use Rattle.kcsboard.proofs.accesses.kcs_read_data.Lts as lts
-use Rattle.kcs.proofs.after_read.Reads as after-read-reads
-use Rattle.kcs.proofs.output_of.Reads as output-of-reads
-use Rattle.kcsboard.proofs.bytes.control_of.Reads as control-of-reads
-use Rattle.kcsboard.proofs.bytes.put_control.Reads as put-control-reads
 
 control-of-requires : tie.Need-control-of-requires
 control-of-requires c κs = search needs

@@ -1,7 +1,6 @@
 -- `kcsboard::accesses::kcs_respond` meets its contract.
 use mathlib.Core.Path.{_≡_, refl, sym, ap, _∙_}
-use mathlib.Core.List.{List, _++_}
-use Prim.Native.Nat.{ℕ}
+use mathlib.Core.List.{_++_}
 use native.Mathlib.Omega.{arith}
 use lib.ListN.{length, getD, drop}
 use borrow.Author.Tests.{not-true, not-false}
@@ -14,13 +13,6 @@ use Rattle.kcsboard.proofs.RoundTrip.{round-trip}
 use borrow.Author.Needs.{needs}
 use Rattle.kcsboard.proofs.accesses.kcs_respond.Statement.{statement}
 use Rattle.kcsboard.proofs.accesses.kcs_respond.Tie as tie
-use Rattle.kcsboard.proofs.accesses.kcs_respond.Reads as reads
-use Rattle.kcsboard.proofs.accesses.kcs_respond.Lts as lts
-use Rattle.kcs.proofs.after_answer.Reads as after-answer-reads
-use Rattle.kcs.proofs.is_taken.Reads as is-taken-reads
-use Rattle.kcsboard.proofs.bytes.control_of.Reads as control-of-reads
-use Rattle.kcsboard.proofs.bytes.put_control.Reads as put-control-reads
-use Rattle.kcsboard.proofs.bytes.put_response.Reads as put-response-reads
 
 control-of-requires : tie.Need-control-of-requires
 control-of-requires c κs = search needs

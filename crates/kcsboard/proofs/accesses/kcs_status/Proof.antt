@@ -4,10 +4,6 @@ use Rattle.kcs.specs.Port.{statusOf}
 use borrow.Author.Needs.{needs}
 use Rattle.kcsboard.proofs.accesses.kcs_status.Statement.{statement}
 use Rattle.kcsboard.proofs.accesses.kcs_status.Tie as tie
-use Rattle.kcsboard.proofs.accesses.kcs_status.Reads as reads
-use Rattle.kcsboard.proofs.accesses.kcs_status.Lts as lts
-use Rattle.kcs.proofs.status_of.Reads as status-of-reads
-use Rattle.kcsboard.proofs.bytes.control_of.Reads as control-of-reads
 
 control-of-requires : tie.Need-control-of-requires
 control-of-requires c κs = search needs

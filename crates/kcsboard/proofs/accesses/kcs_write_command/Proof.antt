@@ -9,11 +9,6 @@ use Rattle.kcsboard.proofs.Places.{controls-changed}
 use borrow.Author.Needs.{needs}
 use Rattle.kcsboard.proofs.accesses.kcs_write_command.Statement.{statement}
 use Rattle.kcsboard.proofs.accesses.kcs_write_command.Tie as tie
-use Rattle.kcsboard.proofs.accesses.kcs_write_command.Reads as reads
-use Rattle.kcsboard.proofs.accesses.kcs_write_command.Lts as lts
-use Rattle.kcs.proofs.after_command.Reads as after-command-reads
-use Rattle.kcsboard.proofs.bytes.control_of.Reads as control-of-reads
-use Rattle.kcsboard.proofs.bytes.put_control.Reads as put-control-reads
 
 control-of-requires : tie.Need-control-of-requires
 control-of-requires c κs = search needs

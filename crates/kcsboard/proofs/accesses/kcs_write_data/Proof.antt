@@ -2,7 +2,7 @@
 use mathlib.Core.Path.{_≡_, sym, ap, _∙_}
 use mathlib.Core.List.{_++_}
 use mathlib.Core.Logic.{⊎-elim}
-use Prim.Native.Nat.{ℕ, _+_}
+use Prim.Native.Nat.{_+_}
 use native.Mathlib.Omega.{arith}
 use lib.ListN.{length, getD, set, drop}
 use Rattle.buffers.proofs.Replace.{range-at}
@@ -16,12 +16,6 @@ use Rattle.kcsboard.proofs.Places.{two-ranges, byte-put}
 use borrow.Author.Needs.{needs}
 use Rattle.kcsboard.proofs.accesses.kcs_write_data.Statement.{statement}
 use Rattle.kcsboard.proofs.accesses.kcs_write_data.Tie as tie
-use Rattle.kcsboard.proofs.accesses.kcs_write_data.Reads as reads
-use Rattle.kcsboard.proofs.accesses.kcs_write_data.Lts as lts
-use Rattle.kcs.proofs.after_data.Reads as after-data-reads
-use Rattle.kcs.proofs.has_next.Reads as has-next-reads
-use Rattle.kcsboard.proofs.bytes.control_of.Reads as control-of-reads
-use Rattle.kcsboard.proofs.bytes.put_control.Reads as put-control-reads
 
 control-of-requires : tie.Need-control-of-requires
 control-of-requires c κs = search needs

@@ -5,8 +5,6 @@ use Rattle.kcsboard.proofs.Places.{controls-put}
 use borrow.Author.Needs.{needs}
 use Rattle.kcsboard.proofs.bytes.put_control.Statement.{statement}
 use Rattle.kcsboard.proofs.bytes.put_control.Tie as tie
-use Rattle.kcsboard.proofs.bytes.put_control.Reads as reads
-use Rattle.kcsboard.proofs.bytes.put_control.Lts as lts
 
 slice-write-port : tie.Need-slice-write-port
 slice-write-port c = search needs

@@ -1,7 +1,6 @@
 -- `kcsboard::bytes::put_response` meets its contract.
 use mathlib.Core.Path.{_≡_, sym, ap, _∙_}
-use mathlib.Core.List.{List}
-use Prim.Native.Nat.{ℕ, _+_, _-_, _≤_}
+use Prim.Native.Nat.{_+_, _-_}
 use native.Mathlib.Omega.{arith}
 use lib.ListN.{length}
 use borrow.Rule.Slice.PartMut.{putMid, midOf, mid-len}
@@ -10,9 +9,6 @@ use Rattle.buffers.proofs.Replace.{part-back}
 use borrow.Author.Needs.{needs}
 use Rattle.kcsboard.proofs.bytes.put_response.Statement.{statement}
 use Rattle.kcsboard.proofs.bytes.put_response.Tie as tie
-use Rattle.kcsboard.proofs.bytes.put_response.Reads as reads
-use Rattle.kcsboard.proofs.bytes.put_response.Lts as lts
-use Rattle.buffers.proofs.copy.Reads as copy-reads
 
 add-end : tie.Need-add-end
 add-end c = search needs
