@@ -141,7 +141,8 @@ uint8_t kcs_write_data(kcs_port *port, uint8_t byte);
 /*
  * The controller answers the message that is complete, with a response of 0 to 64 bytes: OBF is set with its first
  * byte, and the port is reading. An empty one leads to idle with OBF set on 00. C/D# stays as it is. False where the
- * response has more bytes or the port is not awaiting one: it is refused, and nothing changes.
+ * response has more bytes or the port is not awaiting one: it is refused, and nothing changes. A response is for the
+ * message that was completed last, so a board that answers late forgets a message when the host writes again.
  */
 bool kcs_respond(kcs_port *port, kcs_bytes response);
 
