@@ -1,5 +1,6 @@
-//! The proved library as Rust sees it: the C boundary of the crate `board`, wrapped in safe functions.
+//! The proved libraries as Rust sees them: the C boundary of the crate `board`, wrapped in safe functions, and in `kcs` that of `kcsboard`.
 
+pub mod kcs;
 pub mod pair;
 pub mod program;
 pub mod twin;
