@@ -1,10 +1,9 @@
-//! A KCS port of each implementation: the C boundary of the crate `kcsboard`, wrapped in safe functions, and the second implementation's, with
-//! the accesses to a port as words.
+//! A KCS port of each implementation: the C boundary of the crate `kcsboard`, wrapped in safe functions, and the second implementation's; and the
+//! accesses to a port as words.
 
 use second::kcs;
 use std::fmt;
 use std::hint::black_box;
-use std::ptr::{addr_of, addr_of_mut};
 
 /// The most bytes of a request and of a response.
 pub const MOST: usize = 64;
@@ -40,10 +39,6 @@ extern "C" {
     fn kcs_respond(port: *mut Record, response: Bytes) -> u8;
 }
 
-pub fn fresh() -> Record {
-    unsafe { kcs_fresh() }
-}
-
 /// What a host and a board do with a port.
 pub trait Port: Clone {
     fn status(&self) -> u8;
@@ -52,94 +47,111 @@ pub trait Port: Clone {
     /// The length of the message that this completes, else 0.
     fn write_data(&mut self, byte: u8) -> usize;
     fn respond(&mut self, response: &[u8]) -> bool;
-    /// The message that was completed last, until the next 61.
-    fn message(&self) -> &[u8];
+    /// The message of which this length was told.
+    fn message(&self, length: usize) -> &[u8];
 }
 
-impl Port for kcs::Port {
+impl Record {
+    pub fn fresh() -> Record {
+        unsafe { kcs_fresh() }
+    }
+}
+
+impl Port for Record {
+    #[inline]
     fn status(&self) -> u8 {
-        self.status()
+        unsafe { kcs_status(self) }
     }
 
+    #[inline]
     fn read_data(&mut self) -> u8 {
-        self.read_data()
+        unsafe { kcs_read_data(self) }
     }
 
+    #[inline]
     fn write_command(&mut self, code: u8) {
-        self.write_command(code)
+        unsafe { kcs_write_command(self, code) }
     }
 
+    #[inline]
     fn write_data(&mut self, byte: u8) -> usize {
-        self.write_data(byte)
+        unsafe { kcs_write_data(self, byte) }.into()
     }
 
+    #[inline]
     fn respond(&mut self, response: &[u8]) -> bool {
-        self.respond(response)
+        let response = Bytes { start: response.as_ptr(), length: response.len() };
+        crate::yes(unsafe { kcs_respond(self, response) })
     }
 
-    fn message(&self) -> &[u8] {
-        self.message()
+    #[inline]
+    fn message(&self, length: usize) -> &[u8] {
+        &self.request[..length]
     }
 }
 
-const GUARD: u8 = 0xc7;
+/// A port of the second implementation. No call of it is inlined, as none of ours can be, which are in an archive: the times of both can be compared.
+#[derive(Clone)]
+pub struct Second(pub kcs::Port);
 
-/// A port of the proved library. Around its record are bytes that no call may touch, an odd number, so that it stands at any address.
+impl Second {
+    pub fn fresh() -> Second {
+        Second(kcs::Port::new())
+    }
+}
+
+impl Port for Second {
+    #[inline(never)]
+    fn status(&self) -> u8 {
+        self.0.status()
+    }
+
+    #[inline(never)]
+    fn read_data(&mut self) -> u8 {
+        self.0.read_data()
+    }
+
+    #[inline(never)]
+    fn write_command(&mut self, code: u8) {
+        self.0.write_command(code)
+    }
+
+    #[inline(never)]
+    fn write_data(&mut self, byte: u8) -> usize {
+        self.0.write_data(byte)
+    }
+
+    #[inline(never)]
+    fn respond(&mut self, response: &[u8]) -> bool {
+        self.0.respond(response)
+    }
+
+    #[inline(never)]
+    fn message(&self, length: usize) -> &[u8] {
+        &self.0.message()[..length]
+    }
+}
+
+/// A port of ours between bytes that no call may touch. Their number is odd, so that its record stands at any address.
 #[repr(C)]
-#[derive(Clone, Debug)]
+#[derive(Clone)]
 pub struct Ours {
     before: [u8; 33],
     pub record: Record,
     after: [u8; 31],
-    told: usize,
 }
+
+const GUARD: u8 = 0xc7;
 
 impl Ours {
-    pub fn of(record: Record) -> Ours {
-        Ours { before: [GUARD; 33], record, after: [GUARD; 31], told: 0 }
+    pub fn new(record: Record) -> Ours {
+        Ours { before: [GUARD; 33], record, after: [GUARD; 31] }
     }
 
-    pub fn is_guarded(&self) -> bool {
-        self.before == [GUARD; 33] && self.after == [GUARD; 31]
-    }
-
-    /// The record goes out of the compiler's sight together with its guards, so that these are read again.
-    fn lent(&mut self) -> *mut Record {
-        addr_of_mut!(black_box(self).record)
-    }
-}
-
-impl Port for Ours {
-    fn status(&self) -> u8 {
-        unsafe { kcs_status(addr_of!(black_box(self).record)) }
-    }
-
-    fn read_data(&mut self) -> u8 {
-        unsafe { kcs_read_data(self.lent()) }
-    }
-
-    fn write_command(&mut self, code: u8) {
-        unsafe { kcs_write_command(self.lent(), code) };
-        if code == 0x61 {
-            self.told = 0;
-        }
-    }
-
-    fn write_data(&mut self, byte: u8) -> usize {
-        let length = unsafe { kcs_write_data(self.lent(), byte) }.into();
-        if length != 0 {
-            self.told = length;
-        }
-        length
-    }
-
-    fn respond(&mut self, response: &[u8]) -> bool {
-        let response = Bytes { start: response.as_ptr(), length: response.len() };
-        crate::yes(unsafe { kcs_respond(self.lent(), response) })
-    }
-
-    fn message(&self) -> &[u8] {
-        &self.record.request[..self.told]
+    /// Whether no call has touched them. The whole goes out of the compiler's sight first, so that it reads them again.
+    pub fn is_whole(&self) -> bool {
+        let seen = black_box(self);
+        seen.before == [GUARD; 33] && seen.after == [GUARD; 31]
     }
 }
 

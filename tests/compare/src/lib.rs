@@ -87,6 +87,7 @@ fn bytes(part: &mut [u8]) -> Bytes {
 }
 
 /// A bool byte of C.
+#[inline]
 fn yes(byte: u8) -> bool {
     assert!(byte < 2, "a bool byte is {byte}");
     byte == 1

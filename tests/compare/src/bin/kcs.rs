@@ -4,7 +4,7 @@
 //! kcs SEED ROUNDS: seeds SEED to SEED + ROUNDS - 1 of the random lists. A difference prints the accesses that show it, as tools/kcs_trace.sh
 //! takes them.
 
-use compare::kcs::{accesses, fresh, make, Access, Ours, Port, Record, Seen, MOST};
+use compare::kcs::{accesses, make, Access, Ours, Port, Record, Second, Seen, MOST};
 use compare::Random;
 use second::kcs::{Phase, PHASES};
 use std::collections::BTreeMap;
@@ -150,44 +150,64 @@ fn number(phase: Phase) -> u8 {
     }
 }
 
-/// Both implementations' ports.
+/// Where the two differ: what was seen, and the accesses that led to it.
+struct Difference {
+    what: String,
+    list: Vec<Access>,
+}
+
+impl Difference {
+    fn after(mut self, past: &[Access]) -> Difference {
+        self.list.splice(0..0, past.iter().cloned());
+        self
+    }
+}
+
+/// Both implementations' ports, and the length of the message that was told last, 0 from the next 61 on.
 #[derive(Clone)]
 struct Pair {
     ours: Ours,
-    second: second::kcs::Port,
+    second: Second,
+    told: usize,
 }
 
 impl Pair {
-    fn new() -> Pair {
-        Pair { ours: Ours::of(fresh()), second: second::kcs::Port::new() }
+    fn new(record: Record) -> Pair {
+        Pair { ours: Ours::new(record), second: Second::fresh(), told: 0 }
     }
 
-    fn make(&mut self, access: &Access, coverage: &mut Coverage) -> Result<Seen, String> {
-        let (phase, status, before) = (self.second.phase(), self.second.status(), self.ours.record);
-        let (ours, theirs) = (make(&mut self.ours, access), make(&mut self.second, access));
+    /// An access to both; what is different, if anything is.
+    fn make(&mut self, access: &Access, coverage: &mut Coverage) -> Option<String> {
+        let (phase, status, before) = (self.second.0.phase(), self.second.status(), self.ours.record);
+        let (seen, theirs) = (make(&mut self.ours.record, access), make(&mut self.second, access));
         coverage.count(phase, status, kind(access, theirs.gave));
-        if ours != theirs {
-            return Err(format!("{access}: {ours:02X?}, the second implementation {theirs:02X?} (in hex)"));
+        if seen != theirs {
+            return Some(format!("{seen:02X?}, the second implementation {theirs:02X?} (in hex)"));
         }
-        if self.ours.message() != self.second.message() {
-            return Err(format!("{access}: message {:02X?}, the second implementation {:02X?}", self.ours.message(), self.second.message()));
+        match access {
+            Access::Command(0x61) => self.told = 0,
+            Access::Data(_) if seen.gave != 0 => self.told = seen.gave,
+            _ => {}
         }
-        if self.ours.record.phase != number(self.second.phase()) {
-            return Err(format!("{access}: phase {}, the second implementation {:?}", self.ours.record.phase, self.second.phase()));
+        let record = &self.ours.record;
+        let (message, theirs) = (record.message(self.told), self.second.0.message());
+        if message != theirs {
+            return Some(format!("message {message:02X?}, the second implementation {theirs:02X?}"));
         }
-        if changes_nothing(access, status, ours.gave) && self.ours.record != before {
-            return Err(format!("{access}: it changed {before:?} to {:?}", self.ours.record));
+        if record.phase != number(self.second.0.phase()) {
+            return Some(format!("phase {}, the second implementation {:?}", record.phase, self.second.0.phase()));
         }
-        if !self.ours.is_guarded() {
-            return Err(format!("{access}: bytes around the record changed"));
+        if changes_nothing(access, status, seen.gave) && *record != before {
+            return Some(format!("changed to {record:02X?} (in hex)"));
         }
-        Ok(ours)
+        (!self.ours.is_whole()).then(|| "bytes around the record changed".into())
     }
 
-    /// A list of accesses; a difference names those up to it.
-    fn make_all(&mut self, list: &[Access], coverage: &mut Coverage) -> Result<(), String> {
+    fn make_all(&mut self, list: &[Access], coverage: &mut Coverage) -> Result<(), Difference> {
         for (at, access) in list.iter().enumerate() {
-            self.make(access, coverage).map_err(|e| format!("{e}, after {}", text(&list[..at])))?;
+            if let Some(what) = self.make(access, coverage) {
+                return Err(Difference { what, list: list[..=at].to_vec() });
+            }
         }
         Ok(())
     }
@@ -203,10 +223,6 @@ fn changes_nothing(access: &Access, status: u8, gave: usize) -> bool {
     }
 }
 
-fn text(list: &[Access]) -> String {
-    list.iter().map(Access::to_string).collect::<Vec<_>>().join(" ")
-}
-
 /// Every access, and responses about the lengths that count.
 fn every_access() -> Vec<Access> {
     let writes = (0..=255).flat_map(|byte| [Access::Command(byte), Access::Data(byte)]);
@@ -214,52 +230,7 @@ fn every_access() -> Vec<Access> {
     writes.chain(answers).chain([Access::Status, Access::Read]).collect()
 }
 
-/// Every access in every phase, and what the probes bring to light after it.
-fn in_every_phase(coverage: &mut Coverage) -> Result<(), String> {
-    let probes = PROBES.map(accesses);
-    for way in WAYS {
-        for way in [accesses(way), accesses(&format!("{way} r"))] {
-            let mut start = Pair::new();
-            start.make_all(&way, coverage)?;
-            for access in every_access() {
-                let mut after = start.clone();
-                let context = |e| format!("{e}, after {} {access}", text(&way));
-                after.make(&access, coverage).map_err(context)?;
-                for probe in &probes {
-                    after.clone().make_all(probe, coverage).map_err(context)?;
-                }
-            }
-        }
-    }
-    Ok(())
-}
-
-/// Requests and responses of every length, each byte of them followed by the probes.
-fn of_every_length(coverage: &mut Coverage) -> Result<(), String> {
-    let probes = PROBES.map(accesses);
-    let mut request = Pair::new();
-    request.make_all(&accesses("c61"), coverage)?;
-    for byte in 0x80..0xc2 {
-        for probe in &probes {
-            request.clone().make_all(probe, coverage).map_err(|e| format!("{e}, after data up to {byte:02X}"))?;
-        }
-        request.make(&Access::Data(byte), coverage)?;
-    }
-    for length in 0..=65 {
-        let mut response = Pair::new();
-        response.make_all(&accesses("c61 c62 d05"), coverage)?;
-        response.make(&Access::Answer((1..=length).collect()), coverage)?;
-        for read in 0..=length {
-            for probe in &probes {
-                response.clone().make_all(probe, coverage).map_err(|e| format!("{e}, after {read} bytes of an answer of {length}"))?;
-            }
-            response.make(&Access::Data(0x68), coverage)?;
-        }
-    }
-    Ok(())
-}
-
-/// How a random list goes on: once in so many times a request ends, and an access is none that the phase is for.
+/// How a random list goes on: once in so many times a request ends, and an access is not what the phase is for.
 struct Manner {
     ends: u64,
     errs: u64,
@@ -269,9 +240,12 @@ struct Manner {
 fn random_access(r: &mut Random, manner: &Manner, phase: Phase) -> Access {
     let any = r.next() as u8;
     if r.once_in(manner.errs) {
-        let code = r.one_of(&[0x60, 0x61, 0x62, 0x62, 0x68, any]);
-        let data = r.one_of(&[0x00, 0x68, any]);
-        return [Access::Command(code), Access::Data(data), Access::Answer(random_answer(r)), Access::Status][r.below(4) as usize].clone();
+        return match r.below(4) {
+            0 => Access::Command(r.one_of(&[0x60, 0x61, 0x62, 0x62, 0x68, any])),
+            1 => Access::Data(r.one_of(&[0x00, 0x68, any])),
+            2 => Access::Answer(random_answer(r)),
+            _ => Access::Status,
+        };
     }
     if r.once_in(3) {
         return Access::Read;
@@ -295,21 +269,70 @@ fn random_answer(r: &mut Random) -> Vec<u8> {
     bytes
 }
 
-/// A list of accesses that goes deep, and what the probes bring to light at its end.
-fn random_list(r: &mut Random, probes: &[Vec<Access>], coverage: &mut Coverage) -> Result<(), String> {
-    let manner = Manner { ends: r.one_of(&[2, 20, 80]), errs: r.one_of(&[6, 50, 400]) };
-    let mut pair = Pair::new();
-    let mut list = Vec::new();
-    for _ in 0..r.below(300) {
-        let access = random_access(r, &manner, pair.second.phase());
-        pair.make(&access, coverage).map_err(|e| format!("{e}, after {}", text(&list)))?;
-        list.push(access);
-    }
-    probes.iter().try_for_each(|probe| pair.clone().make_all(probe, coverage)).map_err(|e| format!("{e}, after {}", text(&list)))
+/// What is tried on ports that accesses lead to.
+struct Reached {
+    coverage: Coverage,
+    probes: [Vec<Access>; PROBES.len()],
 }
 
-/// The record that the rules take this one for: an unknown phase is the error phase, a number that stands for a bit is 0 or 1, a request has 64 bytes at
-/// most, and so has a response, of which none is left where the next would be behind the last.
+impl Reached {
+    /// Each probe on a copy.
+    fn probe(&mut self, pair: &Pair) -> Result<(), Difference> {
+        self.probes.iter().try_for_each(|probe| pair.clone().make_all(probe, &mut self.coverage))
+    }
+
+    /// Every access in every phase, each followed by the probes.
+    fn in_every_phase(&mut self) -> Result<(), Difference> {
+        for way in WAYS {
+            for way in [accesses(way), accesses(&format!("{way} r"))] {
+                let mut start = Pair::new(Record::fresh());
+                start.make_all(&way, &mut self.coverage)?;
+                for access in every_access() {
+                    let mut pair = start.clone();
+                    let access = [access];
+                    pair.make_all(&access, &mut self.coverage).map_err(|d| d.after(&way))?;
+                    self.probe(&pair).map_err(|d| d.after(&access).after(&way))?;
+                }
+            }
+        }
+        Ok(())
+    }
+
+    /// Requests and responses of every length, with the probes after each byte.
+    fn of_every_length(&mut self) -> Result<(), Difference> {
+        self.step_by_step(&accesses("c61 d80..C1"))?;
+        for length in 0..=65 {
+            let response = Access::Answer((1..=length).collect());
+            let reads = vec![Access::Data(0x68); length.into()];
+            self.step_by_step(&[accesses("c61 c62 d05"), vec![response], reads].concat())?;
+        }
+        Ok(())
+    }
+
+    fn step_by_step(&mut self, list: &[Access]) -> Result<(), Difference> {
+        let mut pair = Pair::new(Record::fresh());
+        for at in 0..list.len() {
+            pair.make_all(&list[at..=at], &mut self.coverage).map_err(|d| d.after(&list[..at]))?;
+            self.probe(&pair).map_err(|d| d.after(&list[..=at]))?;
+        }
+        Ok(())
+    }
+
+    /// A list of accesses that goes deep, with the probes at its end.
+    fn at_random(&mut self, r: &mut Random) -> Result<(), Difference> {
+        let manner = Manner { ends: r.one_of(&[2, 20, 80]), errs: r.one_of(&[6, 50, 400]) };
+        let mut pair = Pair::new(Record::fresh());
+        let mut list = Vec::new();
+        for _ in 0..r.below(300) {
+            list.push(random_access(r, &manner, pair.second.0.phase()));
+            pair.make_all(&list[list.len() - 1..], &mut self.coverage).map_err(|d| d.after(&list[..list.len() - 1]))?;
+        }
+        self.probe(&pair).map_err(|d| d.after(&list))
+    }
+}
+
+/// The record that the rules take this one for: an unknown phase is the error phase, a number that stands for a bit is 0 or 1, a request has 64
+/// bytes at most, and so has a response, of which none is left where the next would be behind the last.
 fn plain(record: &Record) -> Record {
     let end = record.end.min(MOST as u8);
     let (next, end) = if record.next < end { (record.next, end) } else { (0, 0) };
@@ -318,120 +341,118 @@ fn plain(record: &Record) -> Record {
     Record { phase, command: is_set(record.command), full: is_set(record.full), length, next, end, ..*record }
 }
 
-/// An access to a record that no access leaves, and to the plain one.
-fn make_alike(ours: &mut Ours, plain: &mut Ours, access: &Access) -> Result<(), String> {
-    let (seen, wanted) = (make(ours, access), make(plain, access));
-    if seen != wanted || ours.message() != plain.message() {
-        return Err(format!("{access}: {seen:02X?}, of the plain record {wanted:02X?} (in hex)"));
+/// An access to a record that no access leaves, and to the plain one; what is different, if anything is.
+fn make_alike(ours: &mut Ours, plain: &mut Record, access: &Access) -> Option<String> {
+    let (seen, wanted) = (make(&mut ours.record, access), make(plain, access));
+    if seen != wanted {
+        return Some(format!("{seen:02X?}, of the plain record {wanted:02X?} (in hex)"));
+    }
+    if matches!(access, Access::Data(_)) && ours.record.message(seen.gave) != plain.message(seen.gave) {
+        return Some("another message than of the plain record".into());
     }
     if seen.status & 0x36 != 0 {
-        return Err(format!("{access}: IBF, SMS_ATN or OEM in status {:02X}", seen.status));
+        return Some(format!("IBF, SMS_ATN or OEM in status {:02X}", seen.status));
     }
-    if !ours.is_guarded() {
-        return Err(format!("{access}: bytes around the record changed"));
-    }
-    Ok(())
+    (!ours.is_whole()).then(|| "bytes around the record changed".into())
 }
 
 /// What is tried on records that no access leaves: an access, each of the lists after it, and an exchange after a recovery.
-struct Trial {
+struct Damaged {
     firsts: Vec<Access>,
-    lists: Vec<Vec<Access>>,
+    lists: [Vec<Access>; 4],
     recovery: Vec<Access>,
     exchange: Vec<Access>,
 }
 
-impl Trial {
-    fn new(firsts: &str) -> Trial {
-        Trial {
+impl Damaged {
+    fn new(firsts: &str) -> Damaged {
+        Damaged {
             firsts: accesses(firsts),
-            lists: ["c60 d00 r", "c62 d77", "d68 r d68 r", "aCCDD r d68 r"].map(accesses).into(),
+            lists: ["c60 d00 r", "c62 d77", "d68 r d68 r", "aCCDD r d68 r"].map(accesses),
             recovery: accesses("c60 r d00 r d68 r"),
             exchange: accesses("c61 r d20..5E r c62 r d5F aA0..A3 r d68 r d68 d68 d68 r c60 d00 r"),
         }
     }
 
-    fn on(&self, record: &Record, coverage: &mut Coverage) -> Result<(), String> {
-        let output = if record.full == 0 { 0 } else { record.output };
-        if Ours::of(*record).read_data() != output {
-            return Err("a read does not give Data_Out".into());
-        }
+    fn on(&self, record: Record, coverage: &mut Coverage) -> Result<(), Difference> {
         for first in &self.firsts {
-            let (mut ours, mut other) = (Ours::of(*record), Ours::of(plain(record)));
-            make_alike(&mut ours, &mut other, first)?;
             for list in &self.lists {
-                let (mut ours, mut other) = (ours.clone(), other.clone());
-                list.iter().try_for_each(|access| make_alike(&mut ours, &mut other, access)).map_err(|e| format!("{first}, then {e}"))?;
+                let (mut ours, mut other) = (Ours::new(record), plain(&record));
+                let list: Vec<Access> = [first].into_iter().chain(list).cloned().collect();
+                let different = list.iter().enumerate().find_map(|(at, access)| Some((at, make_alike(&mut ours, &mut other, access)?)));
+                if let Some((at, what)) = different {
+                    return Err(Difference { what, list: list[..=at].to_vec() });
+                }
             }
         }
         self.recovers(record, coverage)
     }
 
-    /// The published recovery is idle after six accesses, having told the record's status, and then all is as on a fresh port.
-    fn recovers(&self, record: &Record, coverage: &mut Coverage) -> Result<(), String> {
-        let mut ours = Ours::of(*record);
-        let seen: Vec<Seen> = self.recovery.iter().map(|access| make(&mut ours, access)).collect();
+    /// A read gives Data_Out; the published recovery is idle after six accesses, having told the record's status, and then all is as on a fresh port.
+    fn recovers(&self, record: Record, coverage: &mut Coverage) -> Result<(), Difference> {
+        let (mut ours, mut copy) = (Ours::new(record), record);
+        let (read, output) = (copy.read_data(), if record.full == 0 { 0 } else { record.output });
+        let seen: Vec<Seen> = self.recovery.iter().map(|access| make(&mut ours.record, access)).collect();
         let told = record.fault.into();
         let wanted = [(0, 0x89), (0, 0x88), (0, 0x41), (told, 0x40), (0, 0x01), (0, 0x00)].map(|(gave, status)| Seen { gave, status });
-        if seen != wanted || !ours.is_guarded() {
-            return Err(format!("the recovery gives {seen:02X?} (in hex)"));
+        if read != output || seen != wanted || !ours.is_whole() {
+            return Err(Difference { what: format!("a read gives {read:02X}, the recovery {seen:02X?} (in hex)"), list: self.recovery.clone() });
         }
-        Pair { ours: Ours::of(ours.record), ..Pair::new() }.make_all(&self.exchange, coverage)
+        Pair::new(ours.record).make_all(&self.exchange, coverage).map_err(|d| d.after(&self.recovery))
     }
 }
 
-/// Every value of each control of a record in each phase and some that are none, and every pair of the response's two numbers. Answers how many records.
-fn of_damaged_records(coverage: &mut Coverage) -> Result<u64, String> {
-    let (trial, short) = (Trial::new("s r c60 c61 c62 c63 d00 d68 d55 a aAA a10..4F a10..50"), Trial::new("d68"));
+/// Every value of each control of a record, in each phase and in some that are none, and every pair of the response's two numbers. Answers how many
+/// records these are.
+fn of_damaged_records(coverage: &mut Coverage) -> Result<u64, Difference> {
+    let (all, few) = (Damaged::new("s r c60 c61 c62 c63 d00 d68 d55 a aAA a10..4F a10..50"), Damaged::new("d68"));
     let (request, response) = (std::array::from_fn(|i| i as u8 + 1), std::array::from_fn(|i| i as u8 + 0x81));
     let base = Record { phase: 0, command: 1, full: 1, output: 0x99, fault: 6, length: 3, next: 2, end: 5, request, response };
     let mut count = 0;
-    let mut try_on = |trial: &Trial, record: Record| {
+    let mut hold = |damaged: &Damaged, record: Record| {
         count += 1;
-        trial.on(&record, coverage).map_err(|e| format!("{record:02X?} (in hex): {e}"))
+        damaged.on(record, coverage).map_err(|d| Difference { what: format!("{}, of {record:02X?}", d.what), ..d })
     };
     for value in 0..=255 {
-        try_on(&trial, Record { phase: value, ..base })?;
+        hold(&all, Record { phase: value, ..base })?;
         for phase in [0, 1, 2, 3, 4, 5, 6, 7, 8, 0x7f, 0x80, 0xff] {
             let base = Record { phase, ..base };
-            try_on(&trial, Record { command: value, ..base })?;
-            try_on(&trial, Record { full: value, ..base })?;
-            try_on(&trial, Record { output: value, ..base })?;
-            try_on(&trial, Record { fault: value, ..base })?;
-            try_on(&trial, Record { length: value, ..base })?;
+            hold(&all, Record { command: value, ..base })?;
+            hold(&all, Record { full: value, ..base })?;
+            hold(&all, Record { output: value, ..base })?;
+            hold(&all, Record { fault: value, ..base })?;
+            hold(&all, Record { length: value, ..base })?;
         }
         for end in 0..=255 {
-            try_on(&short, Record { phase: 4, next: value, end, ..base })?;
+            hold(&few, Record { phase: 4, next: value, end, ..base })?;
         }
     }
     Ok(count)
 }
 
-fn compare(first: u64, rounds: u64, coverage: &mut Coverage) -> Result<(), String> {
-    in_every_phase(coverage)?;
-    of_every_length(coverage)?;
-    let records = of_damaged_records(coverage)?;
-    let probes = PROBES.map(accesses);
+fn compare(first: u64, rounds: u64) -> Result<Coverage, Difference> {
+    let mut reached = Reached { coverage: Coverage::default(), probes: PROBES.map(accesses) };
+    reached.in_every_phase()?;
+    reached.of_every_length()?;
+    let records = of_damaged_records(&mut reached.coverage)?;
     for seed in first..first + rounds {
-        let mut r = Random(seed.wrapping_mul(0x1234_5678_9abc_def1));
-        random_list(&mut r, &probes, coverage).map_err(|e| format!("seed {seed}: {e}"))?;
+        reached.at_random(&mut Random(seed.wrapping_mul(0x1234_5678_9abc_def1)))?;
     }
+    let last = first + rounds - 1;
     println!(
-        "kcs: {} ways into {} phases, {records} records that no access leaves, seeds {first} to {}; no difference",
+        "kcs: {} ways into {} phases, {records} records that no access leaves, seeds {first} to {last}: no difference",
         2 * WAYS.len(),
-        PHASES.len(),
-        first + rounds - 1
+        PHASES.len()
     );
-    Ok(())
+    Ok(reached.coverage)
 }
 
 fn main() {
     let numbers: Vec<u64> = std::env::args().skip(1).map(|argument| argument.parse().expect("kcs SEED ROUNDS")).collect();
     let [first, rounds] = numbers[..] else { panic!("kcs SEED ROUNDS") };
-    let mut coverage = Coverage::default();
-    if let Err(difference) = compare(first, rounds, &mut coverage) {
-        println!("kcs: {difference}");
+    let coverage = compare(first, rounds).unwrap_or_else(|Difference { what, list }| {
+        println!("kcs: {what}\nby: {}", list.iter().map(Access::to_string).collect::<Vec<_>>().join(" "));
         std::process::exit(1);
-    }
+    });
     assert!(coverage.is_full(), "an access was not tried in some phase, or a phase was reached with another status");
 }

@@ -3,7 +3,7 @@
 //! kcs_cases ours|second: the proved library or the second implementation. tests/cases.sh compares what both print with the stored
 //! tests/cases/kcs.txt.
 
-use compare::kcs::{accesses, fresh, make, word, Access, Ours, Port, Seen, MOST};
+use compare::kcs::{accesses, make, word, Access, Port, Record, Second, Seen, MOST};
 
 /// The words of Ticket 3 and of its readings, with the lists that show them: `out` is the published read, up to idle.
 const RULES: [(&str, &[&str]); 14] = [
@@ -137,7 +137,7 @@ fn outcome(port: &mut impl Port, access: &Access) -> String {
     let Seen { gave, status } = make(port, access);
     match access {
         Access::Status | Access::Read => format!("={gave:02X}>{status:02X}"),
-        Access::Data(_) if gave != 0 => format!("={gave}>{status:02X} [{}]", bytes_text(port.message())),
+        Access::Data(_) if gave != 0 => format!("={gave}>{status:02X} [{}]", bytes_text(port.message(gave))),
         Access::Command(_) | Access::Data(_) => format!(">{status:02X}"),
         Access::Answer(_) => format!("={}>{status:02X}", if gave == 1 { "taken" } else { "refused" }),
     }
@@ -194,8 +194,8 @@ fn print_cases<P: Port>(new: impl Fn() -> P) {
 
 fn main() {
     match std::env::args().nth(1).as_deref() {
-        Some("ours") => print_cases(|| Ours::of(fresh())),
-        Some("second") => print_cases(second::kcs::Port::new),
+        Some("ours") => print_cases(Record::fresh),
+        Some("second") => print_cases(Second::fresh),
         _ => panic!("kcs_cases ours|second"),
     }
 }
