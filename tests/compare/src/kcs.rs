@@ -31,7 +31,7 @@ struct Bytes {
 }
 
 extern "C" {
-    fn kcs_fresh() -> Record;
+    pub fn kcs_fresh() -> Record;
     fn kcs_status(port: *const Record) -> u8;
     fn kcs_read_data(port: *mut Record) -> u8;
     fn kcs_write_command(port: *mut Record, code: u8);
