@@ -1,13 +1,23 @@
 #!/usr/bin/env bash
-# The example board loop in C: builds the archive of crates/board and the example, runs it, and compares
-# what it prints with examples/board/expected.txt. The header is C++ too.
+# The examples in C: builds each with its archive, runs it, and compares what it prints with the expected.txt beside it. The headers are C++ too.
 set -euo pipefail
 cd "$(dirname "$0")/.."
 built=target/c_example
-bash tests/staticlib.sh
 mkdir -p "$built"
-g++ -std=c++17 -Wall -Wextra -Werror -fsyntax-only -x c++ include/hiomap.h
-gcc -std=c11 -O2 -Wall -Wextra -Werror -Iinclude examples/board/loop.c target/staticlib/libboard.a -o "$built/loop"
-bash tests/limit.sh 10 "$built/loop" > "$built/printed.txt"
-diff -u examples/board/expected.txt "$built/printed.txt"
-echo "c example: as expected"
+
+# SOURCE CRATE: the example, and the crate whose archive it links
+prints_as_expected() {
+    local source=$1 crate=$2
+    local program=$built/$(basename "$source" .c)
+    bash tests/staticlib.sh "$crate"
+    gcc -std=c11 -O2 -Wall -Wextra -Werror -Iinclude "$source" "target/staticlib/lib$crate.a" -o "$program"
+    bash tests/limit.sh 10 "$program" > "$program.txt"
+    diff -u "$(dirname "$source")/expected.txt" "$program.txt"
+    echo "c example: $source as expected"
+}
+
+for header in include/*.h; do
+    g++ -std=c++17 -Wall -Wextra -Werror -fsyntax-only -x c++ "$header"
+done
+prints_as_expected examples/board/loop.c board
+prints_as_expected examples/kcs/echo.c kcsboard

@@ -1,10 +1,12 @@
 #!/usr/bin/env bash
-# The archive that C and Rust link, target/staticlib/libboard.a, made again where a source is newer. Quiet unless it fails.
+# staticlib.sh [CRATE]: the archive that C and Rust link, target/staticlib/libCRATE.a, made again where a source is newer. CRATE is board
+# or kcsboard; board without one. Quiet unless it fails.
 set -euo pipefail
 cd "$(dirname "$0")/.."
-archive=target/staticlib/libboard.a
+crate=${1:-board}
+archive=target/staticlib/lib$crate.a log=target/staticlib-$crate.log
 if [ -e "$archive" ] && [ -z "$(find crates crates.txt -type f -newer "$archive" -print -quit)" ]; then
     exit 0
 fi
 mkdir -p target
-rt staticlib board > target/staticlib.log 2>&1 || { tail -n 40 target/staticlib.log; exit 1; }
+rt staticlib "$crate" > "$log" 2>&1 || { tail -n 40 "$log"; exit 1; }

@@ -1,7 +1,9 @@
-// Links the static library that `rt staticlib board` wrote.
+// Links the static libraries that `rt staticlib` wrote.
 fn main() {
     let root = std::env::var("CARGO_MANIFEST_DIR").unwrap();
     println!("cargo:rustc-link-search=native={root}/../../target/staticlib");
-    println!("cargo:rustc-link-lib=static=board");
-    println!("cargo:rerun-if-changed={root}/../../target/staticlib/libboard.a");
+    for crate_name in ["board", "kcsboard"] {
+        println!("cargo:rustc-link-lib=static={crate_name}");
+        println!("cargo:rerun-if-changed={root}/../../target/staticlib/lib{crate_name}.a");
+    }
 }

@@ -1,5 +1,6 @@
-//! The proved library as Rust sees it: the C boundary of the crate `board`, wrapped in safe functions.
+//! The proved libraries as Rust sees them: the C boundary of the crate `board`, wrapped in safe functions, and in `kcs` that of `kcsboard`.
 
+pub mod kcs;
 pub mod pair;
 pub mod program;
 pub mod twin;
@@ -86,6 +87,7 @@ fn bytes(part: &mut [u8]) -> Bytes {
 }
 
 /// A bool byte of C.
+#[inline]
 fn yes(byte: u8) -> bool {
     assert!(byte < 2, "a bool byte is {byte}");
     byte == 1

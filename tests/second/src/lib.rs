@@ -5,7 +5,12 @@
 //! was read, what ticket 2's issue decides, from a brief that relayed it, and
 //! ticket 4's issue with the brief that named the call's form.
 //! Ticket 5 changes no answer. No other ticket is in.
+//! Module kcs was written from 001, ticket 3 of 02 and that ticket's readings
+//! alone.
 //! It is plain on purpose: it is there to be compared with.
+
+/// The controller's side of a KCS port (ticket 3).
+pub mod kcs;
 
 /// Bytes in a block, which is also the erase granule.
 pub const BLOCK: usize = 4096;

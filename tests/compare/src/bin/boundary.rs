@@ -3,6 +3,7 @@
 //!
 //! boundary: BENCH names the bench program.
 
+use compare::kcs::{self, accesses, make, Port};
 use compare::pair::{Access, Pair};
 use compare::{program, twin, ListReply, Record, Suspended, Work};
 use std::fs::File;
@@ -18,6 +19,11 @@ const _: () = assert!(offset_of!(Record, erased) == ERASED && offset_of!(Record,
 const _: () = assert!(offset_of!(Suspended, record) == 2 && size_of::<Suspended>() == SUSPENDED_ANSWER);
 const _: () = assert!(offset_of!(Work, blocks) == 4 && offset_of!(Work, actions) == 8 && size_of::<Work>() == 12);
 const _: () = assert!(offset_of!(ListReply, named) == 1 && offset_of!(ListReply, place) == 2 && size_of::<ListReply>() == 3);
+/// And a KCS port as include/kcs.h has it.
+const _: () = assert!(offset_of!(kcs::Record, phase) == 0 && offset_of!(kcs::Record, command) == 1 && offset_of!(kcs::Record, full) == 2);
+const _: () = assert!(offset_of!(kcs::Record, output) == 3 && offset_of!(kcs::Record, fault) == 4 && offset_of!(kcs::Record, length) == 5);
+const _: () = assert!(offset_of!(kcs::Record, next) == 6 && offset_of!(kcs::Record, end) == 7 && offset_of!(kcs::Record, request) == 8);
+const _: () = assert!(offset_of!(kcs::Record, response) == 72 && size_of::<kcs::Record>() == PORT);
 const NUMBERED: usize = 1;
 const SUSPENDED: usize = 4;
 const DIRTY: usize = 10;
@@ -25,6 +31,7 @@ const ERASED: usize = 11;
 const MARKS: usize = 12;
 const RECORD: usize = 76;
 const SUSPENDED_ANSWER: usize = 78;
+const PORT: usize = 136;
 
 /// Every page of 15 blocks has a byte of its own, and none is FF.
 fn pattern(length: usize, base: usize) -> Vec<u8> {
@@ -356,6 +363,28 @@ fn answers() -> Result<(), String> {
     Ok(())
 }
 
+/// A fresh KCS port has no byte but 0 and ends where the header says, and no response is taken of whose length only the last bits are good.
+fn port() -> Result<(), String> {
+    type Fresh = unsafe extern "C" fn(*mut [u8; PORT]);
+    let fresh: Fresh = unsafe { transmute(kcs::kcs_fresh as unsafe extern "C" fn() -> kcs::Record) };
+    let bytes = guarded("kcs_fresh", |place| unsafe { fresh(place) })?;
+    if bytes != [0; PORT] {
+        return Err(format!("kcs_fresh: {bytes:02X?}"));
+    }
+    let mut awaiting = kcs::Record::fresh();
+    for access in accesses("c61 c62 d05") {
+        make(&mut awaiting, &access);
+    }
+    let mut zeros = Zeros::new(1 << 44);
+    for (shift, more) in (8..44).flat_map(|shift| [(shift, 0), (shift, 1), (shift, 64)]) {
+        let mut port = awaiting;
+        if port.respond(zeros.part((1 << shift) + more)) || port != awaiting {
+            return Err(format!("a response of 2^{shift} and {more} bytes is taken, or changes the record"));
+        }
+    }
+    Ok(())
+}
+
 /// How much is pending, of every pair of kept numbers beside several marks, and with everything else in the record wrong.
 fn pending() -> Result<(), String> {
     let mut marks = [[0; 64], [1; 64], [2; 64], [3; 64], [0; 64], [0; 64]];
@@ -427,6 +456,7 @@ fn main() {
         ("wide answers", Box::new(wide_answers)),
         ("pending", Box::new(pending)),
         ("lists", Box::new(lists)),
+        ("KCS port", Box::new(port)),
         ("bench", Box::new(move || bench(&program))),
     ];
     for (name, section) in &sections {

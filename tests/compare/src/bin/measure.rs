@@ -1,6 +1,7 @@
-//! Measures the proved library in one run beside the machine's own limits and the second implementation, as times and their ratio.
+//! Measures the proved libraries in one run beside the machine's own limits and the second implementation, as times and their ratio.
 
-use compare::{record_of, session_of, Record};
+use compare::kcs::{accesses, make, Port, Second, MOST};
+use compare::{kcs, record_of, session_of, Record};
 use second::{Kind, Session};
 use std::hint::black_box;
 use std::time::Instant;
@@ -77,7 +78,12 @@ fn line(what: &str, other: &str, places: &[[f64; 2]], aim: f64) {
     let (least, most) = ratios.fold((f64::MAX, 0.0), |(least, most): (f64, f64), ratio| (least.min(ratio), most.max(ratio)));
     let ratio = if places.len() == 1 { format!("{most:.2}") } else { format!("{least:.2} to {most:.2}") };
     let verdict = if most <= aim { "within" } else { "OVER" };
-    println!("| {what} | {ours:.0} ns | {other} | {theirs:.0} ns | {ratio} | {aim:.2} | {verdict} |");
+    println!("| {what} | {} | {other} | {} | {ratio} | {aim:.2} | {verdict} |", time_text(ours), time_text(theirs));
+}
+
+/// A short time to a tenth.
+fn time_text(time: f64) -> String {
+    format!("{time:.*} ns", usize::from(time < 10.0))
 }
 
 /// The work on bytes, against the machine's own: in several buffers, since the times depend on the pages that a buffer got.
@@ -176,6 +182,87 @@ fn against_a_small_chip(closed: &Record) {
     }
 }
 
+fn read_status<P: Port>(port: &mut P) {
+    black_box(port.status());
+}
+
+fn read_data<P: Port>(port: &mut P) {
+    black_box(port.read_data());
+}
+
+fn write_start<P: Port>(port: &mut P) {
+    port.write_command(black_box(0x61));
+}
+
+fn write_byte<P: Port>(port: &mut P) {
+    black_box(port.write_data(black_box(0x55)));
+}
+
+fn answer<P: Port>(port: &mut P) {
+    assert!(port.respond(black_box(&[0xaa; MOST])));
+}
+
+/// What a host does after a write: it looks at the status, and reads.
+fn look_and_read<P: Port>(port: &mut P) {
+    read_status(port);
+    read_data(port);
+}
+
+/// A request and a response of 64 bytes each.
+fn exchange<P: Port>(port: &mut P) {
+    write_start(port);
+    look_and_read(port);
+    for _ in 1..MOST {
+        write_byte(port);
+        look_and_read(port);
+    }
+    port.write_command(black_box(0x62));
+    look_and_read(port);
+    write_byte(port);
+    answer(port);
+    for _ in 0..MOST {
+        look_and_read(port);
+        port.write_data(black_box(0x68));
+    }
+    look_and_read(port);
+}
+
+/// The time of a call on each of many ports that all are as this one, in nanoseconds.
+fn on_each<P: Port>(ports: &mut [P], start: &P, call: &impl Fn(&mut P)) -> f64 {
+    ports.fill(start.clone());
+    let begin = Instant::now();
+    for port in black_box(&mut *ports) {
+        call(port);
+    }
+    begin.elapsed().as_nanos() as f64 / ports.len() as f64
+}
+
+/// One row: the least time of a call on ports that these words lead to, over many rounds that take turns.
+fn port_line(what: &str, words: &str, ours: impl Fn(&mut kcs::Record), theirs: impl Fn(&mut Second)) {
+    let (mut one, mut other) = (kcs::Record::fresh(), Second::fresh());
+    for access in accesses(words) {
+        assert_eq!(make(&mut one, &access), make(&mut other, &access));
+    }
+    let (mut ones, mut others) = (vec![one; 128], vec![other.clone(); 128]);
+    let mut best = [f64::MAX; 2];
+    for _ in 0..2_000 {
+        best[0] = best[0].min(on_each(&mut ones, &one, &ours));
+        best[1] = best[1].min(on_each(&mut others, &other, &theirs));
+    }
+    line(what, "the second implementation", &[best], 1.0);
+}
+
+/// The accesses to a KCS port.
+fn against_the_second_port() {
+    port_line("KCS: read of the status", "c61", read_status, read_status);
+    port_line("KCS: read of Data_Out", "c61", read_data, read_data);
+    port_line("KCS: write of 61", "c61 r", write_start, write_start);
+    port_line("KCS: write of a byte that is kept", "c61 d01 d02 r", write_byte, write_byte);
+    port_line("KCS: write of a message's last byte", "c61 d01 d02 c62 r", write_byte, write_byte);
+    port_line("KCS: response of 64 bytes", "c61 c62 d01", answer, answer);
+    port_line("KCS: exchange of 64 bytes each way", "", exchange, exchange);
+}
+
 fn main() {
     println!("| what | ours | against | that | ratio | aim | |");
     println!("|---|---|---|---|---|---|---|");
@@ -186,4 +273,5 @@ fn main() {
     against_single_commands(&mut rooms[0]);
     against_a_look(&mut rooms[0]);
     against_a_small_chip(&closed);
+    against_the_second_port();
 }
