@@ -66,19 +66,10 @@ shown phase byte c =
 abbrev pub showing : Phase → ℕ → Control → Control
 showing phase = shown (numberOf phase)
 
--- OBF clear, in this phase; nobody sees the byte behind it, which stays (decided)
+-- OBF clear, in this phase; nobody sees the byte behind it, which is 00 (decided)
 abbrev pub clearing : Phase → Control → Control
 clearing phase c =
-    record {
-      phase = numberOf phase;
-      command = c .command;
-      full = 0;
-      output = c .output;
-      fault = c .fault;
-      length = c .length;
-      next = c .next;
-      end = c .end;
-    }
+    record { phase = numberOf phase; command = c .command; full = 0; output = 0x00; fault = c .fault; length = c .length; next = c .next; end = c .end }
 
 -- another C/D#, another status that 60 tells, another length of the request, another place in the response and another length of it
 abbrev pub withCommand : ℕ → Control → Control

@@ -116,6 +116,7 @@ fn kept(control: Control, last: bool) -> DataStep
     }
     longer.phase = 3;
     longer.full = 0;
+    longer.output = 0;
     DataStep {
         control: longer,
         kept: true,
