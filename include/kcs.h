@@ -140,7 +140,8 @@ uint8_t kcs_write_data(kcs_port *port, uint8_t byte);
 
 /*
  * The controller answers the message that is complete, with a response of 0 to 64 bytes: OBF is set with its first
- * byte, and the port is reading. An empty one leads to idle with OBF set on 00. C/D# stays as it is. False where the
+ * byte, and the port is reading. An empty one leads to idle with OBF set on 00; a host that has seen READ_STATE before
+ * and waits for OBF alone takes that 00 for a byte (docs/INTEGRATION.md). C/D# stays as it is. False where the
  * response has more bytes or the port is not awaiting one: it is refused, and nothing changes. A response is for the
  * message that was completed last, so a board that answers late forgets a message when the host writes again.
  */
