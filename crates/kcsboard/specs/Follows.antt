@@ -22,7 +22,8 @@ calledAll (step ∷ rest) bytes = calledAll rest (called step bytes)
 abbrev pub Follows : Type 0
 Follows = (steps : List Step) (bytes : List ℕ) → length bytes ≡ 136 → (portOf (calledAll steps bytes) ≡ steppedAll steps (portOf bytes)) × (length (calledAll steps bytes) ≡ 136)
 
--- it begins with a fresh port, and the message that a call tells of is so many bytes of `request`, from offset 8 on
+-- the bytes of a fresh port stand for it (that `kcs_fresh`'s record has these bytes is the layout of its fields, which is not proved but tested), and the message that a
+-- call tells of is so many bytes of `request`, from offset 8 on
 abbrev pub FreshFollows : Type 0
 FreshFollows = portOf (bytesOf fresh) ≡ fresh
 

@@ -4,11 +4,13 @@ pub mod Registers
 pub mod Sending
 pub mod Writing
 pub mod Messages
+pub mod Staying
 pub mod Receiving
 pub mod Reading
 pub mod Waiting
 pub mod Naming
 pub mod Recovering
 pub mod Rows
+pub mod Shown
 pub mod Lengths
 pub mod Examples

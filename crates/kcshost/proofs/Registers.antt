@@ -157,6 +157,9 @@ read-as-said p =
       state = state-seen (dataRead p) ∙ sym (state-seen p);
       phase = refl;
       fault = refl;
+      length = refl;
+      next = refl;
+      end = refl;
       request = refl;
       response = refl;
     }

@@ -1,9 +1,11 @@
 -- The table by the papers' numbers: what is seen after each write and each answer.
 use mathlib.Core.Path.{_≡_, refl, sym, ap, subst, _∙_}
-use mathlib.Core.Bool.{Bool, true, false, cond}
+use mathlib.Core.Bool.{Bool, true, false, cond, not}
+use mathlib.Core.Logic.{⊎-elim}
 use mathlib.Core.List.{List, [], _∷_}
 use Prim.Native.Nat.{ℕ, _≤_}
 use native.Mathlib.Omega.{arith}
+use lib.Dec.{ltb}
 use lib.ListN.{length, getD}
 use borrow.Author.Tests.{lt-ltb, le-ltb, le-leb, eq-eqb, ne-eqb}
 use Rattle.kcs.specs.declared.Control.{Control}
@@ -12,9 +14,10 @@ use Rattle.kcs.specs.Port.{Phase, idle, writing, ending, awaiting, reading, abo
 use Rattle.kcs.specs.Effects.{Effect, Closes, Keeps, Completes, Tells, Continues, Finishes, WrongCode, TooLong, onEnd, onCommand, onData, hasRoom, hasNext, left, withCommand}
 use Rattle.kcs.specs.Accesses.{withControl, commandWritten, dataWritten, answers}
 use Rattle.kcs.proofs.Phases.{no-end}
-use Rattle.kcshost.specs.Rows.{Shows, CommandsTaken, DataTaken, AnswerTaken, TakenAsSaid}
-use Rattle.kcshost.proofs.Boxes.{state-seen}
+use Rattle.kcshost.specs.Rows.{Shows, CommandsTaken, DataTaken, AnswerTaken, TakenAsSaid, OtherNumbers}
+use Rattle.kcshost.proofs.Boxes.{state-seen, command-seen, obf-seen}
 use Rattle.kcshost.proofs.Messages.{by}
+use Rattle.kcshost.proofs.Registers.{both-fail}
 use Rattle.kcshost.proofs.Reading.{quiet, shown, answered-is, answered-some, awaited}
 
 -- ---- commands
@@ -67,7 +70,7 @@ module _ (byte : ℕ) (p : Port) where
   shows-long : Shows 3 0x06 0x00 (by p byte TooLong)
   shows-long = (state-seen (by p byte TooLong), refl, refl)
 
-  data-taken : DataTaken byte p
+  pub data-taken : DataTaken byte p
   data-taken =
       record {
         kept = λ is few. in-phase writing Keeps 2 (c .fault) 0x00 is (ap (λ (t : Bool). cond t Keeps TooLong) (lt-ltb (c .length) 64 few)) (state-seen (by p byte Keeps), refl, refl);
@@ -84,7 +87,7 @@ module _ (byte : ℕ) (p : Port) where
             (state-seen (by p byte Continues), refl, ap (λ (t : Bool). cond t (getD (p .response) (c .next) 0) 0x00) more);
         finished =
             λ is read none.
-            let no-more : hasNext c ≡ false = rw (le-ltb (c .next) (c .end) none) in
+            let no-more : hasNext c ≡ false = ⊎-elim (λ (e : c .end ≤ c .next). rw (le-ltb (c .next) (c .end) e)) (λ (e : 64 ≤ c .next). both-fail (ltb (c .next) (c .end)) (ltb (c .next) 64) (le-ltb (c .next) 64 e)) none in
             in-phase reading Finishes 0 0x00 0x00 is (rw (eq-eqb byte 0x68 read, no-more)) (state-seen (by p byte Finishes), refl, refl);
         notRead = λ is other. in-phase reading WrongCode 3 0x02 0x00 is (rw (ne-eqb byte 0x68 other)) shows-wrong;
         inIdle = λ is. in-phase idle WrongCode 3 0x02 0x00 is refl shows-wrong;
@@ -117,3 +120,13 @@ module _ (p : Port) (waits : phaseOf (p .control .phase) ≡ awaiting) where
 
 pub taken-as-said : TakenAsSaid
 taken-as-said p = (commands-taken p, (λ byte. data-taken byte p), answer-taken p)
+
+-- ---- numbers that no access leaves
+
+pub other-numbers : OtherNumbers
+other-numbers p = (
+  λ above.
+      rw (ne-eqb (p .control .phase) 0 (λ e. omega (arith, above, e)), ne-eqb (p .control .phase) 1 (λ e. omega (arith, above, e)), ne-eqb (p .control .phase) 2 (λ e. omega (arith, above, e)), ne-eqb (p .control .phase) 3 (λ e. omega (arith, above, e)), ne-eqb (p .control .phase) 4 (λ e. omega (arith, above, e)), ne-eqb (p .control .phase) 5 (λ e. omega (arith, above, e))),
+  λ set. command-seen p ∙ ap (λ (t : Bool). cond (not t) 1 0) (ne-eqb (p .control .command) 0 set),
+  λ set. obf-seen p ∙ ap not (ne-eqb (p .control .full) 0 set),
+)

@@ -1,15 +1,16 @@
--- What a port has of its history: which messages it hands over, whether an answer is awaited, and the status that 60 tells, each said of any list of accesses and
--- answers by the list itself. 02, Ticket 3. Proved in proofs/Messages.antt and Naming.antt.
-use Prim.Native.Nat.{ℕ}
+-- What a port has of its history, over any list of accesses and answers: which messages it hands over and whether an answer is awaited, said by the list itself; how long a
+-- message stays, and in which order a response is shown; and the status that 60 tells, by the errors and idle states that the port shows on the way (which these are is
+-- `TakenAsSaid`, Rows.antt). 02, Ticket 3. Proved in proofs/Messages.antt, Shown.antt and Naming.antt.
+use Prim.Native.Nat.{ℕ, suc, _≤_, _<_}
 use mathlib.Core.Path.{_≡_}
-use mathlib.Core.Bool.{Bool, true, false, cond, _&&_}
+use mathlib.Core.Bool.{Bool, true, false, cond, not, _&&_}
 use mathlib.Core.List.{List, [], _∷_, _++_}
 use lib.Dec.{eqb, ltb, leb}
-use lib.ListN.{length}
+use lib.ListN.{length, getD}
 use Rattle.kcs.specs.declared.Port.{Port}
 use Rattle.kcs.specs.Port.{Phase, idle, writing, ending, awaiting, reading, aborting, failed, phaseOf}
-use Rattle.kcs.specs.Accesses.{statusRead, commandWritten, dataWritten, answers}
-use Rattle.kcshost.specs.Runs.{readStatus, readData, writeCommand, writeData, Step, access, answer, stepped, steppedAll, handedIn}
+use Rattle.kcs.specs.Accesses.{statusRead, byteRead, commandWritten, dataWritten, answers, answered}
+use Rattle.kcshost.specs.Runs.{Access, readStatus, readData, writeCommand, writeData, accessedAll, Step, access, answer, stepped, steppedAll, handedIn}
 use Rattle.kcshost.specs.Host.{stateSeen}
 
 -- ---- the message, of any host: what is handed over is what its writes alone tell
@@ -93,6 +94,50 @@ abbrev pub AnswersExact : Type 0
 AnswersExact =
     (steps : List Step) (response : List ℕ) (p : Port) → Outside p
     → answers response (steppedAll steps p) ≡ (isAwaited (requestsAfter steps none) && leb (length response) 64)
+
+-- ---- the message stays in the record until the next 61
+
+abbrev pub isStart : Step → Bool
+isStart (access readStatus) = false
+isStart (access readData) = false
+isStart (access (writeCommand code)) = eqb code 0x61
+isStart (access (writeData byte)) = false
+isStart (answer response) = false
+
+abbrev pub noStart : List Step → Bool
+noStart [] = true
+noStart (step ∷ rest) = not (isStart step) && noStart rest
+
+-- of a port outside a write phase, as it is when the message was handed over
+abbrev pub MessageStays : Type 0
+MessageStays =
+    (steps : List Step) (p : Port) → (phaseOf (p .control .phase) ≡ writing → ⊥) → (phaseOf (p .control .phase) ≡ ending → ⊥) → noStart steps ≡ true
+    → steppedAll steps p .request ≡ p .request
+
+-- ---- a response is shown byte by byte, read or not: "OBF aside"
+
+-- reads and READs alone, and how many READs there are
+abbrev pub onlyReads : List Access → Bool
+onlyReads [] = true
+onlyReads (readStatus ∷ rest) = onlyReads rest
+onlyReads (readData ∷ rest) = onlyReads rest
+onlyReads (writeCommand code ∷ rest) = false
+onlyReads (writeData byte ∷ rest) = eqb byte 0x68 && onlyReads rest
+
+abbrev pub readsOf : List Access → ℕ
+readsOf [] = 0
+readsOf (readStatus ∷ rest) = readsOf rest
+readsOf (readData ∷ rest) = readsOf rest
+readsOf (writeCommand code ∷ rest) = readsOf rest
+readsOf (writeData byte ∷ rest) = suc (readsOf rest)
+
+-- one READ more, after as many as the list has, shows the byte of that place, and after the last byte leads to idle, with 00
+abbrev pub ShownInOrder : Type 0
+ShownInOrder =
+    (response : List ℕ) (accesses : List Access) (p : Port) → phaseOf (p .control .phase) ≡ awaiting → length response ≤ 64 → onlyReads accesses ≡ true
+    → readsOf accesses < length response
+    → (byteRead (dataWritten 0x68 (accessedAll accesses (answered response p))) ≡ getD response (suc (readsOf accesses)) 0x00)
+    × (stateSeen (statusRead (dataWritten 0x68 (accessedAll accesses (answered response p)))) ≡ cond (ltb (suc (readsOf accesses)) (length response)) 1 0)
 
 -- ---- "reads the status that the rules name": over any list of accesses and answers
 

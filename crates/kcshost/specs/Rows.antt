@@ -60,7 +60,8 @@ pub record DataTaken (byte : ℕ) (p : Port) : Type 0 where
   pub next
       : phaseOf (p .control .phase) ≡ reading → byte ≡ 0x68 → p .control .next < p .control .end → p .control .next < 64
       → Shows 1 (p .control .fault) (getD (p .response) (p .control .next) 0) (dataWritten byte p)
-  pub finished : phaseOf (p .control .phase) ≡ reading → byte ≡ 0x68 → p .control .end ≤ p .control .next → Shows 0 0x00 0x00 (dataWritten byte p)
+  pub finished
+      : phaseOf (p .control .phase) ≡ reading → byte ≡ 0x68 → (p .control .end ≤ p .control .next) ⊎ (64 ≤ p .control .next) → Shows 0 0x00 0x00 (dataWritten byte p)
   pub notRead : phaseOf (p .control .phase) ≡ reading → (byte ≡ 0x68 → ⊥) → Shows 3 0x02 0x00 (dataWritten byte p)
   pub inIdle : phaseOf (p .control .phase) ≡ idle → Shows 3 0x02 0x00 (dataWritten byte p)
   pub inAwaiting : phaseOf (p .control .phase) ≡ awaiting → Shows 3 0x02 0x00 (dataWritten byte p)
@@ -76,17 +77,30 @@ pub record AnswerTaken (p : Port) : Type 0 where
 abbrev pub TakenAsSaid : Type 0
 TakenAsSaid = (p : Port) → CommandsTaken p × ((byte : ℕ) → DataTaken byte p) × (phaseOf (p .control .phase) ≡ awaiting → AnswerTaken p)
 
--- a read of Data_Out clears OBF, and changes nothing else that is seen
+-- a read of Data_Out clears OBF, and leaves all else but the byte itself
 pub record ReadClears (p : Port) : Type 0 where
   pub clear : obfSeen (statusRead (dataRead p)) ≡ false
   pub state : stateSeen (statusRead (dataRead p)) ≡ stateSeen (statusRead p)
   pub phase : dataRead p .control .phase ≡ p .control .phase
   pub fault : dataRead p .control .fault ≡ p .control .fault
+  pub length : dataRead p .control .length ≡ p .control .length
+  pub next : dataRead p .control .next ≡ p .control .next
+  pub end : dataRead p .control .end ≡ p .control .end
   pub request : dataRead p .request ≡ p .request
   pub response : dataRead p .response ≡ p .response
 
 abbrev pub ReadAsSaid : Type 0
 ReadAsSaid = (p : Port) → ReadClears p
+
+-- ---- numbers that no access leaves (decided)
+
+-- a phase above 5 is the error phase, and any number but 0 is a bit that is set
+abbrev pub OtherNumbers : Type 0
+OtherNumbers =
+    (p : Port)
+    → (5 < p .control .phase → phaseOf (p .control .phase) ≡ failed)
+    × ((p .control .command ≡ 0 → ⊥) → statusRead p / 8 % 2 ≡ 1)
+    × ((p .control .full ≡ 0 → ⊥) → obfSeen (statusRead p) ≡ true)
 
 -- ---- what changes nothing
 
