@@ -1,8 +1,8 @@
 /*
  * An example of a board's loop with a KCS port: it answers every message with the message's own bytes. The host that
- * talks to it is in the same program, and follows the transfers of IPMI's section 9 (9.11, 9.15 to 9.18): it looks at
- * the status before each access, but for the errors that it makes on purpose. tests/c_example.sh builds and runs it and
- * compares what it prints with expected.txt.
+ * talks to it is in the same program, and follows the transfers of IPMI's section 9 (9.11, 9.15 to 9.18), but for the
+ * errors that it makes on purpose, and but that it looks at the state after OBF when it reads: so an empty response
+ * serves it too. tests/c_example.sh builds and runs it and compares what it prints with expected.txt.
  */
 #include <stdio.h>
 #include <string.h>

@@ -121,7 +121,7 @@ impl Port {
         }
     }
 
-    /// For a coverage table only: no host sees it.
+    /// For comparisons and a coverage table: no host sees it.
     #[inline]
     pub fn phase(&self) -> Phase {
         self.phase
@@ -952,7 +952,7 @@ mod tests {
         assert_eq!(read_transfer(&mut stuck, &mut [0; 64]), Err(Failure::State(0x80)));
         assert_eq!(abort(&mut stuck), Err(Failure::State(0x80)));
         assert_eq!(stuck.1[3..], [Command(0x60), Data(0x00)]);
-        // Always READ or ERROR: no further than the first command.
+        // Always READ, ERROR or IDLE: no further than the first command.
         for status in [0x41, 0xC1, 0x01] {
             let mut stuck = Stuck(status, Vec::new());
             let state = Failure::State(status);

@@ -6,7 +6,7 @@
 //! ticket 4's issue with the brief that named the call's form.
 //! Ticket 5 changes no answer. No other ticket is in.
 //! Module kcs was written from 001, ticket 3 of 02 and that ticket's readings
-//! alone.
+//! alone; the host in it, for tests, from the charts as they are generally known.
 //! It is plain on purpose: it is there to be compared with.
 
 /// The controller's side of a KCS port (ticket 3).

@@ -190,12 +190,12 @@ fn read_data<P: Port>(port: &mut P) {
     black_box(port.read_data());
 }
 
-fn write_start<P: Port>(port: &mut P) {
-    port.write_command(black_box(0x61));
+fn command<const CODE: u8, P: Port>(port: &mut P) {
+    port.write_command(black_box(CODE));
 }
 
-fn write_byte<P: Port>(port: &mut P) {
-    black_box(port.write_data(black_box(0x55)));
+fn datum<const BYTE: u8, P: Port>(port: &mut P) {
+    black_box(port.write_data(black_box(BYTE)));
 }
 
 fn answer<P: Port>(port: &mut P) {
@@ -210,19 +210,19 @@ fn look_and_read<P: Port>(port: &mut P) {
 
 /// A request and a response of 64 bytes each.
 fn exchange<P: Port>(port: &mut P) {
-    write_start(port);
+    command::<0x61, _>(port);
     look_and_read(port);
     for _ in 1..MOST {
-        write_byte(port);
+        datum::<0x55, _>(port);
         look_and_read(port);
     }
-    port.write_command(black_box(0x62));
+    command::<0x62, _>(port);
     look_and_read(port);
-    write_byte(port);
+    datum::<0x55, _>(port);
     answer(port);
     for _ in 0..MOST {
         look_and_read(port);
-        port.write_data(black_box(0x68));
+        datum::<0x68, _>(port);
     }
     look_and_read(port);
 }
@@ -256,10 +256,16 @@ fn port_line(what: &str, words: &str, ours: impl Fn(&mut kcs::Record), theirs: i
 fn against_the_second_port() {
     port_line("KCS: read of the status", "c61", read_status, read_status);
     port_line("KCS: read of Data_Out", "c61", read_data, read_data);
-    port_line("KCS: write of 61", "c61 r", write_start, write_start);
-    port_line("KCS: write of a byte that is kept", "c61 d01 d02 r", write_byte, write_byte);
-    port_line("KCS: write of a message's last byte", "c61 d01 d02 c62 r", write_byte, write_byte);
+    port_line("KCS: write of 61", "c61 r", command::<0x61, _>, command::<0x61, _>);
+    port_line("KCS: write of a byte that is kept", "c61 d01 d02 r", datum::<0x55, _>, datum::<0x55, _>);
+    port_line("KCS: write of 62", "c61 d01 d02 r", command::<0x62, _>, command::<0x62, _>);
+    port_line("KCS: write of a message's last byte", "c61 d01 d02 c62 r", datum::<0x55, _>, datum::<0x55, _>);
     port_line("KCS: response of 64 bytes", "c61 c62 d01", answer, answer);
+    port_line("KCS: READ, to the next byte", "c61 c62 d01 aAABBCC r", datum::<0x68, _>, datum::<0x68, _>);
+    port_line("KCS: READ, to idle", "c61 c62 d01 aAA r", datum::<0x68, _>, datum::<0x68, _>);
+    port_line("KCS: write of 60", "c61 r", command::<0x60, _>, command::<0x60, _>);
+    port_line("KCS: 00 after it", "c60 r", datum::<0x00, _>, datum::<0x00, _>);
+    port_line("KCS: a wrong code", "c60 r", datum::<0x55, _>, datum::<0x55, _>);
     port_line("KCS: exchange of 64 bytes each way", "", exchange, exchange);
 }
 
