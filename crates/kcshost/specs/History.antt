@@ -6,8 +6,7 @@ use mathlib.Core.Bool.{Bool, true, false, cond, _&&_}
 use mathlib.Core.List.{List, [], _∷_, _++_}
 use lib.Dec.{eqb, ltb, leb}
 use lib.ListN.{length}
-use Rattle.kcs.specs.declared.Port.{Port}
-use Rattle.kcs.specs.Port.{Phase, idle, writing, ending, awaiting, reading, aborting, failed, phaseOf}
+use Rattle.kcs.specs.Port.{Port, Phase, idle, writing, ending, awaiting, reading, aborting, failed, phaseOf}
 use Rattle.kcs.specs.Accesses.{statusRead, commandWritten, dataWritten, answers}
 use Rattle.kcshost.specs.Runs.{readStatus, readData, writeCommand, writeData, Step, access, answer, stepped, steppedAll, handedIn}
 use Rattle.kcshost.specs.Host.{stateSeen}
