@@ -1,12 +1,13 @@
 -- The phases by their numbers: a case distinction, and what no row of the table takes.
 use mathlib.Core.Path.{_≡_, refl}
 use mathlib.Core.Bool.{Bool, true, false, cond}
-use Prim.Native.Nat.{ℕ}
+use Prim.Native.Nat.{ℕ, zero, suc, _≤_}
+use native.Mathlib.Omega.{arith}
 use lib.Dec.{eqb}
 use borrow.Author.Tests.{eqb-true}
 use Rattle.kcs.specs.Port.{Port, Phase, idle, writing, ending, awaiting, reading, aborting, failed, phaseOf}
 use Rattle.units.proofs.Cases.{chosen}
-use Rattle.kcs.specs.Effects.{Tells, Continues, Finishes, WrongCode, onEnd, onData, left, toldLength}
+use Rattle.kcs.specs.Effects.{Keeps, Completes, TooLong, Tells, Continues, Finishes, WrongCode, onEnd, onData, left, toldLength}
 use Rattle.kcs.specs.Accesses.{withControl}
 use Rattle.kcs.specs.Bytes.{effected}
 
@@ -42,6 +43,15 @@ no-data n room more byte n₁ n₂ n₄ n₅ =
     (λ e. absurd (n₄ e))
     (λ e. absurd (n₅ e))
     refl
+
+-- a byte of the request, the last one in the second phase
+pub kept-data
+    : (n : ℕ) (room more : Bool) (byte : ℕ) → 1 ≤ n → n ≤ 2
+    → onData (phaseOf n) room more byte ≡ cond room (cond (eqb n 2) Completes Keeps) TooLong
+kept-data zero room more byte above below = absurd (omega (arith, above))
+kept-data (suc zero) room more byte above below = refl
+kept-data (suc (suc zero)) room more byte above below = refl
+kept-data (suc (suc (suc n))) room more byte above below = absurd (omega (arith, below))
 
 -- what 68 and 00 do keeps no byte and completes no message
 pub reading-step

@@ -85,8 +85,7 @@ pub fn write_data_in_place(port: &mut [u8], byte: u8) -> u8
     let phase = port[PHASE];
     port[COMMAND] = 0;
     match phase {
-        1 => keep(port, byte, false),
-        2 => keep(port, byte, true),
+        1 | 2 => keep(port, byte, phase == 2),
         4 => {
             read_on(port, byte);
             0

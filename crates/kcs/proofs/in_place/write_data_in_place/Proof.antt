@@ -2,13 +2,15 @@
 use Prim.Native.Nat.{ℕ}
 use mathlib.Core.Path.{_≡_, refl, ap, _∙_}
 use mathlib.Core.Bool.{true, cond}
+use mathlib.Core.Logic.{⊎-elim}
+use native.Mathlib.Omega.{arith}
 use lib.Dec.{eqb}
 use lib.ListN.{getD, set, length-set}
 use Rattle.kcs.specs.Port.{Port, reading, aborting, phaseOf}
 use Rattle.kcs.specs.Effects.{Keeps, Completes, TooLong, WrongCode, hasRoom, hasNext, onData}
 use Rattle.kcs.specs.Accesses.{nextByte}
 use Rattle.kcs.specs.Bytes.{controlOf, portOf, bytesOf}
-use Rattle.kcs.proofs.Phases.{no-data, reading-step, aborting-step}
+use Rattle.kcs.proofs.Phases.{kept-data, no-data, reading-step, aborting-step}
 use Rattle.kcs.proofs.Leaving.{data-left}
 use borrow.Author.Needs.{needs}
 use Rattle.kcs.proofs.in_place.write_data_in_place.Statement.{statement}
@@ -23,17 +25,14 @@ slice-read-phase c = search needs
 slice-write-port : tie.Need-slice-write-port
 slice-write-port c = search needs
 
-keep-requires : tie.Need-keep-requires
-keep-requires c κs = search needs
-
-keep-requires-2 : tie.Need-keep-requires-2
-keep-requires-2 c κs = search needs
-
 read-on-requires : tie.Need-read-on-requires
 read-on-requires c κs = search needs
 
 abort-requires : tie.Need-abort-requires
 abort-requires c κs = search needs
+
+keep-requires : tie.Need-keep-requires
+keep-requires c κs = search needs
 
 refuse-requires : tie.Need-refuse-requires
 refuse-requires c κs = search needs
@@ -42,7 +41,7 @@ same-length : tie.Need-same-length
 same-length c =
     let called = c .before .before in
     let xs = called .before .before .before .before .before .before .args .port .now in
-    called .keep .kept .0 ∙ length-set xs 1 0
+    called .read-on .kept .0 ∙ length-set xs 1 0
 
 returns-2 : tie.Need-returns-2
 returns-2 c =
@@ -52,53 +51,7 @@ returns-2 c =
     let a = tested .before .before .args in
     let xs = a .port .now in
     let p = portOf (set xs 1 0) in
-    let phase : getD xs 0 0 ≡ 1 = arm .match .keys1 in
-    let long = tested .if1 .left in (
-      λ _. data-left (λ (q : Port). cond (hasRoom (q .control)) Keeps TooLong) (a .byte) _ xs _ long
-          (ap (λ (n : ℕ). onData (phaseOf n) (hasRoom (controlOf xs)) (hasNext (controlOf xs)) (a .byte)) phase)
-          (called .keep .ensures .0 (nextByte p))
-          (called .keep .ensures .1),
-      λ no. absurd (no long),
-    )
-
-same-length-2 : tie.Need-same-length-2
-same-length-2 c =
-    let called = c .before .before in
-    let xs = called .before .before .before .before .before .before .args .port .now in
-    called .keep2 .kept .0 ∙ length-set xs 1 0
-
-returns-3 : tie.Need-returns-3
-returns-3 c =
-    let called = c .before .before in
-    let arm = called .before .before in
-    let tested = arm .before .before in
-    let a = tested .before .before .args in
-    let xs = a .port .now in
-    let p = portOf (set xs 1 0) in
-    let phase : getD xs 0 0 ≡ 2 = arm .match .keys2 in
-    let long = tested .if1 .left in (
-      λ _. data-left (λ (q : Port). cond (hasRoom (q .control)) Completes TooLong) (a .byte) _ xs _ long
-          (ap (λ (n : ℕ). onData (phaseOf n) (hasRoom (controlOf xs)) (hasNext (controlOf xs)) (a .byte)) phase)
-          (called .keep2 .ensures .0 (nextByte p))
-          (called .keep2 .ensures .1),
-      λ no. absurd (no long),
-    )
-
-same-length-3 : tie.Need-same-length-3
-same-length-3 c =
-    let called = c .before .before in
-    let xs = called .before .before .before .before .before .before .args .port .now in
-    called .read-on .kept .0 ∙ length-set xs 1 0
-
-returns-4 : tie.Need-returns-4
-returns-4 c =
-    let called = c .before .before in
-    let arm = called .before .before in
-    let tested = arm .before .before in
-    let a = tested .before .before .args in
-    let xs = a .port .now in
-    let p = portOf (set xs 1 0) in
-    let phase : getD xs 0 0 ≡ 4 = arm .match .keys3 in
+    let phase : getD xs 0 0 ≡ 4 = arm .match .keys1 in
     let long = tested .if1 .left in
     let step = reading-step (eqb (a .byte) 0x68) (hasNext (p .control)) (nextByte p) (a .byte) p in (
       λ _. data-left (λ (q : Port). onData reading true (hasNext (q .control)) (a .byte)) (a .byte) _ xs _ long
@@ -108,21 +61,21 @@ returns-4 c =
       λ no. absurd (no long),
     )
 
-same-length-4 : tie.Need-same-length-4
-same-length-4 c =
+same-length-2 : tie.Need-same-length-2
+same-length-2 c =
     let called = c .before .before in
     let xs = called .before .before .before .before .before .before .args .port .now in
     called .abort .kept .0 ∙ length-set xs 1 0
 
-returns-5 : tie.Need-returns-5
-returns-5 c =
+returns-3 : tie.Need-returns-3
+returns-3 c =
     let called = c .before .before in
     let arm = called .before .before in
     let tested = arm .before .before in
     let a = tested .before .before .args in
     let xs = a .port .now in
     let p = portOf (set xs 1 0) in
-    let phase : getD xs 0 0 ≡ 5 = arm .match .keys4 in
+    let phase : getD xs 0 0 ≡ 5 = arm .match .keys2 in
     let long = tested .if1 .left in
     let step = aborting-step (eqb (a .byte) 0x00) (nextByte p) (a .byte) p in (
       λ _. data-left (λ (q : Port). onData aborting true true (a .byte)) (a .byte) _ xs _ long
@@ -132,22 +85,50 @@ returns-5 c =
       λ no. absurd (no long),
     )
 
-same-length-5 : tie.Need-same-length-5
-same-length-5 c =
+same-length-3 : tie.Need-same-length-3
+same-length-3 c =
     let called = c .before .before in
-    let xs = called .before .before .before .before .before .before .args .port .now in
+    let xs = called .before .before .before .before .before .before .before .before .args .port .now in
+    called .keep .kept .0 ∙ length-set xs 1 0
+
+returns-4 : tie.Need-returns-4
+returns-4 c =
+    let called = c .before .before in
+    let below = called .before .before in
+    let above = below .before in
+    let tested = above .before .before .before in
+    let a = tested .before .before .args in
+    let xs = a .port .now in
+    let n = getD xs 0 0 in
+    let p = portOf (set xs 1 0) in
+    let long = tested .if1 .left in (
+      λ _. data-left (λ (q : Port). cond (hasRoom (q .control)) (cond (eqb n 2) Completes Keeps) TooLong) (a .byte) _ xs _ long
+          (kept-data n (hasRoom (controlOf xs)) (hasNext (controlOf xs)) (a .byte) (omega (arith, above .if2 .left)) (omega (arith, below .if3 .taken)))
+          (called .keep .ensures .0 (nextByte p))
+          (called .keep .ensures .1),
+      λ no. absurd (no long),
+    )
+
+same-length-4 : tie.Need-same-length-4
+same-length-4 c =
+    let called = c .before .before in
+    let xs = called .before .before .before .before .before .before .before .args .port .now in
     called .refuse .kept .0 ∙ length-set xs 1 0
 
-returns-6 : tie.Need-returns-6
-returns-6 c =
+returns-5 : tie.Need-returns-5
+returns-5 c =
     let called = c .before .before in
-    let arm = called .before .before in
+    let joined = called .before .before in
+    let arm = joined .before in
     let tested = arm .before .before in
     let a = tested .before .before .args in
     let xs = a .port .now in
+    let n = getD xs 0 0 in
     let r = arm .match .rest in
     let long = tested .if1 .left in
-    let row = no-data (getD xs 0 0) (hasRoom (controlOf xs)) (hasNext (controlOf xs)) (a .byte) (r .0 .0 .0 .1) (r .0 .0 .1) (r .0 .1) (r .1) in
+    let not-first : n ≡ 1 → ⊥ = λ e. ⊎-elim (λ t. omega (arith, t .taken, e)) (λ t. omega (arith, t .1 .left, e)) (joined .if2 .came) in
+    let not-second : n ≡ 2 → ⊥ = λ e. ⊎-elim (λ t. omega (arith, t .taken, e)) (λ t. omega (arith, t .1 .left, e)) (joined .if2 .came) in
+    let row = no-data n (hasRoom (controlOf xs)) (hasNext (controlOf xs)) (a .byte) not-first not-second (r .0 .1) (r .1) in
     (λ _. data-left (λ (q : Port). WrongCode) (a .byte) _ xs _ long row (called .refuse .ensures) refl, λ no. absurd (no long))
 
 pub write-data-in-place-spec : {M : Type 1} → statement M
@@ -157,10 +138,9 @@ write-data-in-place-spec =
     returns
     slice-read-phase
     slice-write-port
-    keep-requires
-    keep-requires-2
     read-on-requires
     abort-requires
+    keep-requires
     refuse-requires
     same-length
     returns-2
@@ -169,6 +149,4 @@ write-data-in-place-spec =
     same-length-3
     returns-4
     same-length-4
-    returns-5
-    same-length-5
-    returns-6)
+    returns-5)
