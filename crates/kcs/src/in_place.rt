@@ -2,7 +2,9 @@
 //
 // A slice that has not 136 bytes is no port: it stays as it is.
 use crate::rows::COMMAND;
+use crate::rows::FAULT;
 use crate::rows::FULL;
+use crate::rows::LENGTH;
 use crate::rows::OUTPUT;
 use crate::rows::PHASE;
 use crate::rows::SIZE;
@@ -12,7 +14,6 @@ use crate::rows::finish;
 use crate::rows::is_taken;
 use crate::rows::keep;
 use crate::rows::offer;
-use crate::rows::open;
 use crate::rows::put_response;
 use crate::rows::read_on;
 use crate::rows::refuse;
@@ -21,8 +22,9 @@ use crate::rows::state_bits;
 ghost use mathlib.Core.Path.{_≡_};
 ghost use mathlib.Core.Bool.{false};
 ghost use lib.ListN.{length};
-ghost use Rattle.kcs.specs.Accesses.{statusRead, byteRead, dataRead, commandWritten, dataWritten, lengthTold, answers, answered};
-ghost use Rattle.kcs.specs.Bytes.{portOf, bytesOf};
+ghost use Rattle.kcs.specs.Effects.{Opens, left};
+ghost use Rattle.kcs.specs.Accesses.{withControl, statusRead, byteRead, dataRead, commandWritten, dataWritten, lengthTold, answers, answered};
+ghost use Rattle.kcs.specs.Bytes.{controlOf, portOf, bytesOf};
 
 // The status register: the state in bits 7 and 6, C/D# in bit 3, OBF in bit 0.
 pub fn read_status_in_place(port: &[u8]) -> u8
@@ -71,6 +73,16 @@ pub fn write_command_in_place(port: &mut [u8], code: u8)
         }
         _ => refuse(port, 2),
     }
+}
+
+// A write phase begins, and the status that 60 tells is that of an abort.
+fn open(port: &mut [u8])
+    requires { ⌜ length (now port) ≡ 136 ⌝ }
+    ensures { λ _. ⌜ now (port .exit) ≡ bytesOf (withControl (left Opens 0x00 (controlOf (now (port .entry)))) (portOf (now (port .entry)))) ⌝ }
+{
+    port[LENGTH] = 0;
+    port[FAULT] = 1;
+    show(port, 1, 0);
 }
 
 // The host writes to Data_In, by the phase that the byte comes in; the answer is the length of the message that this completed, or 0.

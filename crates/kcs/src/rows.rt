@@ -6,52 +6,52 @@ ghost use mathlib.Core.Bool.{true, cond, _&&_};
 ghost use lib.Dec.{eqb, ltb, leb};
 ghost use lib.ListN.{length};
 ghost use Rattle.buffers.specs.Ranges.{replace};
-ghost use Rattle.kcs.specs.Port.{idle, writing, reading, aborting, failed, stateBits, phaseOf, isSet};
-ghost use Rattle.kcs.specs.Effects.{Opens, Keeps, Completes, Finishes, TooLong, hasRoom, hasNext, onData, left, shown, showing, withFault, withPlace, toldLength};
+ghost use Rattle.kcs.specs.Port.{reading, aborting, failed, stateBits, phaseOf, isSet};
+ghost use Rattle.kcs.specs.Effects.{Keeps, Completes, Finishes, TooLong, hasRoom, hasNext, onData, left, shown, showing, withFault, withPlace, toldLength};
 ghost use Rattle.kcs.specs.Accesses.{withControl, nextByte};
 ghost use Rattle.kcs.specs.Bytes.{controlOf, portOf, bytesOf, effected};
 
 // How many bytes a port has.
-pub const SIZE: usize = 136;
+pub(crate) const SIZE: usize = 136;
 
 // 0 idle, 1 writing, 2 ending, 3 awaiting, 4 reading, 5 aborting; any other is the error phase, which a refusal sets to 6.
-pub const PHASE: usize = 0;
+pub(crate) const PHASE: usize = 0;
 
 // The status bits C/D# and OBF: 0 clear, any other number set.
-pub const COMMAND: usize = 1;
+pub(crate) const COMMAND: usize = 1;
 
-pub const FULL: usize = 2;
+pub(crate) const FULL: usize = 2;
 
 // Data_Out: the byte that a read gets while OBF is set.
-pub const OUTPUT: usize = 3;
+pub(crate) const OUTPUT: usize = 3;
 
 // The status that a GET_STATUS/ABORT tells.
-pub const FAULT: usize = 4;
+pub(crate) const FAULT: usize = 4;
 
 // How many bytes of the request there are.
-pub const LENGTH: usize = 5;
+pub(crate) const LENGTH: usize = 5;
 
 // Which byte of the response is the next, and how many it has.
-pub const NEXT: usize = 6;
+pub(crate) const NEXT: usize = 6;
 
-pub const END: usize = 7;
+pub(crate) const END: usize = 7;
 
 // The two buffers.
-pub const REQUEST: usize = 8;
+pub(crate) const REQUEST: usize = 8;
 
-pub const RESPONSE: usize = 72;
+pub(crate) const RESPONSE: usize = 72;
 
 // ---- the status register
 
 // A bit of it, where the number stands for set.
-pub fn bit(number: u8, value: u8) -> u8
+pub(crate) fn bit(number: u8, value: u8) -> u8
     ensures { λ r. ⌜ r ≡ cond (isSet number) value 0 ⌝ }
 {
     if number == 0 { 0 } else { value }
 }
 
 // Idle 0, read 1, write 2, error 3.
-pub fn state_bits(phase: u8) -> u8
+pub(crate) fn state_bits(phase: u8) -> u8
     ensures { λ r. ⌜ r ≡ stateBits (phaseOf phase) ⌝ }
 {
     match phase {
@@ -68,7 +68,7 @@ pub fn state_bits(phase: u8) -> u8
 // ---- the host writes
 
 // OBF set on a byte, in this phase.
-pub fn show(port: &mut [u8], phase: u8, byte: u8)
+pub(crate) fn show(port: &mut [u8], phase: u8, byte: u8)
     requires { ⌜ length (now port) ≡ 136 ⌝ }
     ensures { λ _. ⌜ now (port .exit) ≡ bytesOf (withControl (shown phase byte (controlOf (now (port .entry)))) (portOf (now (port .entry)))) ⌝ }
 {
@@ -78,7 +78,7 @@ pub fn show(port: &mut [u8], phase: u8, byte: u8)
 }
 
 // The error state, with the status that 60 tells then.
-pub fn refuse(port: &mut [u8], fault: u8)
+pub(crate) fn refuse(port: &mut [u8], fault: u8)
     requires { ⌜ length (now port) ≡ 136 ⌝ }
     ensures { λ _. ⌜ now (port .exit)
         ≡ bytesOf (withControl (showing failed 0x00 (withFault fault (controlOf (now (port .entry))))) (portOf (now (port .entry)))) ⌝ }
@@ -87,18 +87,8 @@ pub fn refuse(port: &mut [u8], fault: u8)
     show(port, 6, 0);
 }
 
-// A write phase begins.
-pub fn open(port: &mut [u8])
-    requires { ⌜ length (now port) ≡ 136 ⌝ }
-    ensures { λ _. ⌜ now (port .exit) ≡ bytesOf (withControl (left Opens 0x00 (controlOf (now (port .entry)))) (portOf (now (port .entry)))) ⌝ }
-{
-    port[LENGTH] = 0;
-    port[FAULT] = 1;
-    show(port, 1, 0);
-}
-
 // A byte of the request, the last one or not; the answer is the length of the message that is complete with it, or 0.
-pub fn keep(port: &mut [u8], byte: u8, last: bool) -> u8
+pub(crate) fn keep(port: &mut [u8], byte: u8, last: bool) -> u8
     requires { ⌜ length (now port) ≡ 136 ⌝ }
     ensures { λ r. ⌜ ((given : ℕ) → now (port .exit)
         ≡ bytesOf (effected (cond (hasRoom (controlOf (now (port .entry)))) (cond last Completes Keeps) TooLong) given byte (portOf (now (port .entry)))))
@@ -110,7 +100,8 @@ pub fn keep(port: &mut [u8], byte: u8, last: bool) -> u8
         return 0;
     }
     port[REQUEST + length as usize] = byte;
-    port[LENGTH] = length + 1;
+    let longer = length + 1;
+    port[LENGTH] = longer;
     if !last {
         show(port, 1, 0);
         return 0;
@@ -118,11 +109,11 @@ pub fn keep(port: &mut [u8], byte: u8, last: bool) -> u8
     port[PHASE] = 3;
     port[FULL] = 0;
     port[OUTPUT] = 0;
-    length + 1
+    longer
 }
 
 // A data byte while the host reads: 68 asks for the next byte, or ends the transfer.
-pub fn read_on(port: &mut [u8], byte: u8)
+pub(crate) fn read_on(port: &mut [u8], byte: u8)
     requires { ⌜ length (now port) ≡ 136 ⌝ }
     ensures { λ _. ⌜ now (port .exit) ≡ bytesOf (withControl
         (left (onData reading true (hasNext (controlOf (now (port .entry)))) byte) (nextByte (portOf (now (port .entry)))) (controlOf (now (port .entry))))
@@ -143,14 +134,14 @@ pub fn read_on(port: &mut [u8], byte: u8)
 }
 
 // Whether the response has a byte more.
-pub fn has_next(next: u8, end: u8) -> bool
+pub(crate) fn has_next(next: u8, end: u8) -> bool
     ensures { λ r. ⌜ r ≡ (ltb next end && ltb next 64) ⌝ }
 {
     next < end && next < 64
 }
 
 // All was read, and the port is idle.
-pub fn finish(port: &mut [u8])
+pub(crate) fn finish(port: &mut [u8])
     requires { ⌜ length (now port) ≡ 136 ⌝ }
     ensures { λ _. ⌜ now (port .exit) ≡ bytesOf (withControl (left Finishes 0x00 (controlOf (now (port .entry)))) (portOf (now (port .entry)))) ⌝ }
 {
@@ -159,7 +150,7 @@ pub fn finish(port: &mut [u8])
 }
 
 // A data byte that follows 60: 00 gets the status, which is all that is read then.
-pub fn abort(port: &mut [u8], byte: u8)
+pub(crate) fn abort(port: &mut [u8], byte: u8)
     requires { ⌜ length (now port) ≡ 136 ⌝ }
     ensures { λ _. ⌜ ((given : ℕ) → now (port .exit) ≡ bytesOf (withControl
         (left (onData aborting true true byte) given (controlOf (now (port .entry))))
@@ -177,14 +168,14 @@ pub fn abort(port: &mut [u8], byte: u8)
 // ---- the controller answers
 
 // Whether a response of this length is taken: it is awaited, and fits.
-pub fn is_taken(phase: u8, length: usize) -> bool
+pub(crate) fn is_taken(phase: u8, length: usize) -> bool
     ensures { λ r. ⌜ r ≡ (leb length 64 && eqb phase 3) ⌝ }
 {
     length <= 64 && phase == 3
 }
 
 // A response in its place; it fits there.
-pub fn put_response(port: &mut [u8], response: &[u8])
+pub(crate) fn put_response(port: &mut [u8], response: &[u8])
     requires { ⌜ 72 + length (now response) ≤ length (now port) ⌝ }
     ensures { λ _. ⌜ now (port .exit) ≡ replace 72 (now (response .entry)) (now (port .entry)) ⌝ }
 {
@@ -193,7 +184,7 @@ pub fn put_response(port: &mut [u8], response: &[u8])
 }
 
 // The response's first byte, of this many.
-pub fn offer(port: &mut [u8], count: u8, first: u8)
+pub(crate) fn offer(port: &mut [u8], count: u8, first: u8)
     requires { ⌜ length (now port) ≡ 136 ⌝ }
     ensures { λ _. ⌜ now (port .exit)
         ≡ bytesOf (withControl (showing reading first (withPlace 1 count (controlOf (now (port .entry))))) (portOf (now (port .entry)))) ⌝ }

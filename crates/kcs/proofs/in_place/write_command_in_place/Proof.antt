@@ -1,10 +1,8 @@
 -- `kcs::in_place::write_command_in_place` meets its contract.
-use Prim.Native.Nat.{ℕ}
-use mathlib.Core.Path.{_≡_, refl, ap, _∙_}
+use mathlib.Core.Path.{_≡_, refl}
 use lib.ListN.{getD, length-set}
 use borrow.Author.Tests.{ne-eqb}
-use Rattle.kcs.specs.Port.{phaseOf}
-use Rattle.kcs.specs.Effects.{Opens, Closes, Aborts, WrongCode, onCommand}
+use Rattle.kcs.specs.Effects.{Opens, Closes, Aborts, WrongCode}
 use Rattle.kcs.proofs.Phases.{no-end}
 use Rattle.kcs.proofs.Leaving.{command-left}
 use borrow.Author.Needs.{needs}
@@ -36,10 +34,7 @@ refuse-requires-2 : tie.Need-refuse-requires-2
 refuse-requires-2 c κs = search needs
 
 same-length : tie.Need-same-length
-same-length c =
-    let called = c .before .before in
-    let xs = called .before .before .before .before .before .before .args .port .now in
-    called .show .kept .0 ∙ length-set xs 1 1
+same-length c = rw (c .before .before .show .kept .0) (simp length-set refl)
 
 returns-2 : tie.Need-returns-2
 returns-2 c =
@@ -53,10 +48,7 @@ returns-2 c =
     (λ _. command-left Aborts (a .code) xs _ long (rw code) (called .show .ensures), λ no. absurd (no long))
 
 same-length-2 : tie.Need-same-length-2
-same-length-2 c =
-    let called = c .before .before in
-    let xs = called .before .before .before .before .before .before .args .port .now in
-    called .«open» .kept .0 ∙ length-set xs 1 1
+same-length-2 c = rw (c .before .before .«open» .kept .0) (simp length-set refl)
 
 returns-3 : tie.Need-returns-3
 returns-3 c =
@@ -70,10 +62,7 @@ returns-3 c =
     (λ _. command-left Opens (a .code) xs _ long (rw code) (called .«open» .ensures), λ no. absurd (no long))
 
 same-length-3 : tie.Need-same-length-3
-same-length-3 c =
-    let called = c .before .before in
-    let xs = called .before .before .before .before .before .before .before .args .port .now in
-    called .show2 .kept .0 ∙ length-set xs 1 1
+same-length-3 c = rw (c .before .before .show2 .kept .0) (simp length-set refl)
 
 returns-4 : tie.Need-returns-4
 returns-4 c =
@@ -89,10 +78,7 @@ returns-4 c =
     (λ _. command-left Closes (a .code) xs _ long (rw (code, phase)) (called .show2 .ensures), λ no. absurd (no long))
 
 same-length-4 : tie.Need-same-length-4
-same-length-4 c =
-    let called = c .before .before in
-    let xs = called .before .before .before .before .before .before .before .args .port .now in
-    called .refuse .kept .0 ∙ length-set xs 1 1
+same-length-4 c = rw (c .before .before .refuse .kept .0) (simp length-set refl)
 
 returns-5 : tie.Need-returns-5
 returns-5 c =
@@ -107,10 +93,7 @@ returns-5 c =
     (λ _. command-left WrongCode (a .code) xs _ long (rw code (no-end (getD xs 0 0) (branch .if2 .left))) (called .refuse .ensures), λ no. absurd (no long))
 
 same-length-5 : tie.Need-same-length-5
-same-length-5 c =
-    let called = c .before .before in
-    let xs = called .before .before .before .before .before .before .args .port .now in
-    called .refuse2 .kept .0 ∙ length-set xs 1 1
+same-length-5 c = rw (c .before .before .refuse2 .kept .0) (simp length-set refl)
 
 returns-6 : tie.Need-returns-6
 returns-6 c =

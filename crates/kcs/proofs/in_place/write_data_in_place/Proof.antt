@@ -38,10 +38,7 @@ refuse-requires : tie.Need-refuse-requires
 refuse-requires c κs = search needs
 
 same-length : tie.Need-same-length
-same-length c =
-    let called = c .before .before in
-    let xs = called .before .before .before .before .before .before .args .port .now in
-    called .read-on .kept .0 ∙ length-set xs 1 0
+same-length c = rw (c .before .before .read-on .kept .0) (simp length-set refl)
 
 returns-2 : tie.Need-returns-2
 returns-2 c =
@@ -62,10 +59,7 @@ returns-2 c =
     )
 
 same-length-2 : tie.Need-same-length-2
-same-length-2 c =
-    let called = c .before .before in
-    let xs = called .before .before .before .before .before .before .args .port .now in
-    called .abort .kept .0 ∙ length-set xs 1 0
+same-length-2 c = rw (c .before .before .abort .kept .0) (simp length-set refl)
 
 returns-3 : tie.Need-returns-3
 returns-3 c =
@@ -86,10 +80,7 @@ returns-3 c =
     )
 
 same-length-3 : tie.Need-same-length-3
-same-length-3 c =
-    let called = c .before .before in
-    let xs = called .before .before .before .before .before .before .before .before .args .port .now in
-    called .keep .kept .0 ∙ length-set xs 1 0
+same-length-3 c = rw (c .before .before .keep .kept .0) (simp length-set refl)
 
 returns-4 : tie.Need-returns-4
 returns-4 c =
@@ -110,10 +101,7 @@ returns-4 c =
     )
 
 same-length-4 : tie.Need-same-length-4
-same-length-4 c =
-    let called = c .before .before in
-    let xs = called .before .before .before .before .before .before .before .args .port .now in
-    called .refuse .kept .0 ∙ length-set xs 1 0
+same-length-4 c = rw (c .before .before .refuse .kept .0) (simp length-set refl)
 
 returns-5 : tie.Need-returns-5
 returns-5 c =

@@ -33,7 +33,7 @@ show-requires : tie.Need-show-requires
 show-requires c κs = search needs
 
 same-length-2 : tie.Need-same-length-2
-same-length-2 c = c .before .before .show .kept .0 ∙ length-set (c .before .before .before .before .before .before .before .args .port .now) 7 0
+same-length-2 c = rw (c .before .before .show .kept .0) (simp length-set refl)
 
 returns-2 : tie.Need-returns-2
 returns-2 c =

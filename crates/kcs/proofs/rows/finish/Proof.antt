@@ -16,7 +16,7 @@ show-requires : tie.Need-show-requires
 show-requires c κs = search needs
 
 same-length : tie.Need-same-length
-same-length c = c .before .before .show .kept .0 ∙ length-set (c .before .before .before .before .before .args .port .now) 4 0
+same-length c = rw (c .before .before .show .kept .0) (simp length-set refl)
 
 returns : tie.Need-returns
 returns c =

@@ -40,8 +40,8 @@ add-port c = search needs
 slice-write-port : tie.Need-slice-write-port
 slice-write-port c = search needs
 
-add-port-2 : tie.Need-add-port-2
-add-port-2 c = search needs
+add-longer : tie.Need-add-longer
+add-longer c = search needs
 
 slice-write-port-2 : tie.Need-slice-write-port-2
 slice-write-port-2 c = search needs
@@ -50,12 +50,7 @@ show-requires : tie.Need-show-requires
 show-requires c κs = search needs
 
 same-length-2 : tie.Need-same-length-2
-same-length-2 c =
-    let called = c .before .before in
-    let start = called .before .before .before .before .before .before in
-    let xs = start .args .port .now in
-    let n = getD xs 5 0 in
-    called .show .kept .0 ∙ kept-size xs (8 + n) (n + 1) (start .args .byte)
+same-length-2 c = rw (c .before .before .show .kept .0) (simp length-set refl)
 
 returns-2 : tie.Need-returns-2
 returns-2 c =
@@ -78,9 +73,6 @@ slice-write-port-4 c = search needs
 
 slice-write-port-5 : tie.Need-slice-write-port-5
 slice-write-port-5 c = simp length-set (omega arith)
-
-add-result : tie.Need-add-result
-add-result c = search needs
 
 same-length-3 : tie.Need-same-length-3
 same-length-3 c = search needs
@@ -114,7 +106,7 @@ keep-spec =
     cast-port
     add-port
     slice-write-port
-    add-port-2
+    add-longer
     slice-write-port-2
     show-requires
     same-length-2
@@ -122,6 +114,5 @@ keep-spec =
     slice-write-port-3
     slice-write-port-4
     slice-write-port-5
-    add-result
     same-length-3
     returns-3)

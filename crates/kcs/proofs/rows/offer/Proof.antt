@@ -19,11 +19,7 @@ show-requires : tie.Need-show-requires
 show-requires c κs = search needs
 
 same-length : tie.Need-same-length
-same-length c =
-    let called = c .before .before in
-    let a = called .before .before .before .args in
-    let xs = a .port .now in
-    called .show .kept .0 ∙ length-set (set xs 6 1) 7 (a .count) ∙ length-set xs 6 1
+same-length c = rw (c .before .before .show .kept .0) (simp length-set refl)
 
 returns : tie.Need-returns
 returns c =

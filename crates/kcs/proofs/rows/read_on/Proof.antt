@@ -1,13 +1,10 @@
 -- `kcs::rows::read_on` meets its contract.
-use Prim.Native.Nat.{ℕ, _+_, _<_}
-use mathlib.Core.Path.{_≡_, refl, sym, ap, _∙_}
-use mathlib.Core.Bool.{true}
+use Prim.Native.Nat.{ℕ, _+_}
+use mathlib.Core.Path.{refl, sym, ap, _∙_}
 use mathlib.Core.List.{List}
 use native.Mathlib.Omega.{arith}
-use lib.Dec.{ltb}
 use lib.ListN.{getD, set, length-set}
-use borrow.Author.Tests.{ltb-true, eq-eqb, ne-eqb}
-use Rattle.units.proofs.Cases.{both}
+use borrow.Author.Tests.{eq-eqb, ne-eqb}
 use Rattle.buffers.proofs.Replace.{range-at}
 use Rattle.kcs.specs.Effects.{shown, withPlace}
 use Rattle.kcs.specs.Accesses.{withControl}
@@ -75,10 +72,7 @@ show-requires : tie.Need-show-requires
 show-requires c κs = search needs
 
 same-length-2 : tie.Need-same-length-2
-same-length-2 c =
-    let called = c .before .before in
-    let xs = called .before .before .before .before .before .before .before .before .before .args .port .now in
-    called .show .kept .0 ∙ length-set xs 6 (getD xs 6 0 + 1)
+same-length-2 c = rw (c .before .before .show .kept .0) (simp length-set refl)
 
 returns-2 : tie.Need-returns-2
 returns-2 c =

@@ -1,4 +1,4 @@
--- `kcs::rows::open` meets its contract.
+-- `kcs::in_place::open` meets its contract.
 use mathlib.Core.Path.{refl, _∙_}
 use mathlib.Core.List.{List}
 use Prim.Native.Nat.{ℕ}
@@ -6,8 +6,8 @@ use lib.ListN.{set, length-set}
 use Rattle.kcs.specs.Effects.{shown, withFault, withLength}
 use Rattle.kcs.proofs.Places.{after}
 use borrow.Author.Needs.{needs}
-use Rattle.kcs.proofs.rows.open.Statement.{statement}
-use Rattle.kcs.proofs.rows.open.Tie as tie
+use Rattle.kcs.proofs.in_place.open.Statement.{statement}
+use Rattle.kcs.proofs.in_place.open.Tie as tie
 
 slice-write-port : tie.Need-slice-write-port
 slice-write-port c = search needs
@@ -19,7 +19,7 @@ show-requires : tie.Need-show-requires
 show-requires c κs = search needs
 
 same-length : tie.Need-same-length
-same-length c = c .before .before .show .kept .0 ∙ length-set (set (c .before .before .before .before .before .args .port .now) 5 0) 4 1 ∙ length-set (c .before .before .before .before .before .args .port .now) 5 0
+same-length c = rw (c .before .before .show .kept .0) (simp length-set refl)
 
 returns : tie.Need-returns
 returns c =
