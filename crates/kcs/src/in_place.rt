@@ -96,6 +96,7 @@ pub fn write_data_in_place(port: &mut [u8], byte: u8) -> u8
     }
     let phase = port[PHASE];
     port[COMMAND] = 0;
+    // one arm for both phases of a request: a fourth would make this a jump through a table, which is slower
     match phase {
         1 | 2 => keep(port, byte, phase == 2),
         4 => {

@@ -32,14 +32,14 @@ pub(crate) const FAULT: usize = 4;
 pub(crate) const LENGTH: usize = 5;
 
 // Which byte of the response is the next, and how many it has.
-pub(crate) const NEXT: usize = 6;
+const NEXT: usize = 6;
 
-pub(crate) const END: usize = 7;
+const END: usize = 7;
 
 // The two buffers.
-pub(crate) const REQUEST: usize = 8;
+const REQUEST: usize = 8;
 
-pub(crate) const RESPONSE: usize = 72;
+const RESPONSE: usize = 72;
 
 // ---- the status register
 
@@ -134,7 +134,7 @@ pub(crate) fn read_on(port: &mut [u8], byte: u8)
 }
 
 // Whether the response has a byte more.
-pub(crate) fn has_next(next: u8, end: u8) -> bool
+fn has_next(next: u8, end: u8) -> bool
     ensures { λ r. ⌜ r ≡ (ltb next end && ltb next 64) ⌝ }
 {
     next < end && next < 64
