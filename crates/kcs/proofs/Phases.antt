@@ -1,13 +1,15 @@
 -- The phases by their numbers: a case distinction, and what no row of the table takes.
 use mathlib.Core.Path.{_≡_, refl}
 use mathlib.Core.Bool.{Bool, true, false, cond}
-use Prim.Native.Nat.{ℕ}
+use Prim.Native.Nat.{ℕ, zero, suc, _≤_}
+use native.Mathlib.Omega.{arith}
 use lib.Dec.{eqb}
 use borrow.Author.Tests.{eqb-true}
-use Rattle.kcs.specs.Port.{Phase, idle, writing, ending, awaiting, reading, aborting, failed, phaseOf}
+use Rattle.kcs.specs.Port.{Port, Phase, idle, writing, ending, awaiting, reading, aborting, failed, phaseOf}
 use Rattle.units.proofs.Cases.{chosen}
-use Rattle.kcs.specs.declared.Control.{Control}
-use Rattle.kcs.specs.Effects.{Tells, Continues, Finishes, WrongCode, onEnd, onData, left, stepOf, notKept}
+use Rattle.kcs.specs.Effects.{Keeps, Completes, TooLong, Tells, Continues, Finishes, WrongCode, onEnd, onData, left, toldLength}
+use Rattle.kcs.specs.Accesses.{withControl}
+use Rattle.kcs.specs.Bytes.{effected}
 
 -- what holds of every phase, of each one where it is the number's, holds of the number's phase
 pub each-phase
@@ -42,15 +44,27 @@ no-data n room more byte n₁ n₂ n₄ n₅ =
     (λ e. absurd (n₅ e))
     refl
 
+-- a byte of the request, the last one in the second phase
+pub kept-data
+    : (n : ℕ) (room more : Bool) (byte : ℕ) → 1 ≤ n → n ≤ 2
+    → onData (phaseOf n) room more byte ≡ cond room (cond (eqb n 2) Completes Keeps) TooLong
+kept-data zero room more byte above below = absurd (omega (arith, above))
+kept-data (suc zero) room more byte above below = refl
+kept-data (suc (suc zero)) room more byte above below = refl
+kept-data (suc (suc (suc n))) room more byte above below = absurd (omega (arith, below))
+
 -- what 68 and 00 do keeps no byte and completes no message
 pub reading-step
-    : (asked more : Bool) (given : ℕ) (c : Control)
-    → notKept (left (cond asked (cond more Continues Finishes) WrongCode) given c) ≡ stepOf (cond asked (cond more Continues Finishes) WrongCode) given c
-reading-step true true given c = refl
-reading-step true false given c = refl
-reading-step false more given c = refl
+    : (asked more : Bool) (given byte : ℕ) (p : Port)
+    → (withControl (left (cond asked (cond more Continues Finishes) WrongCode) given (p .control)) p ≡ effected (cond asked (cond more Continues Finishes) WrongCode) given byte p)
+    × (0 ≡ toldLength (cond asked (cond more Continues Finishes) WrongCode) (p .control))
+reading-step true true given byte p = (refl, refl)
+reading-step true false given byte p = (refl, refl)
+reading-step false more given byte p = (refl, refl)
 
 pub aborting-step
-    : (asked : Bool) (given : ℕ) (c : Control) → notKept (left (cond asked Tells WrongCode) given c) ≡ stepOf (cond asked Tells WrongCode) given c
-aborting-step true given c = refl
-aborting-step false given c = refl
+    : (asked : Bool) (given byte : ℕ) (p : Port)
+    → (withControl (left (cond asked Tells WrongCode) given (p .control)) p ≡ effected (cond asked Tells WrongCode) given byte p)
+    × (0 ≡ toldLength (cond asked Tells WrongCode) (p .control))
+aborting-step true given byte p = (refl, refl)
+aborting-step false given byte p = (refl, refl)

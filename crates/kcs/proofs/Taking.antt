@@ -1,23 +1,21 @@
--- A byte that is kept has its place in the request, and a byte that is given its place in the response; a bit of the status register is small.
-use mathlib.Core.Path.{_≡_, refl, ap}
+-- What is kept has its place in the request, what is given its place in the response, and what is taken fits; a bit of the status register is small.
+use mathlib.Core.Path.{_≡_, refl}
 use mathlib.Core.Bool.{Bool, true, false, cond, false≢true}
-use mathlib.Core.List.{List, [], _∷_, _++_}
-use Prim.Native.Nat.{ℕ, zero, suc, _+_, _<_, _≤_}
+use Prim.Native.Nat.{ℕ, _<_, _≤_}
 use native.Mathlib.Omega.{arith}
-use native.Mathlib.Numerals.{unary-clauses}
 use lib.Dec.{ltb, leb, eqb}
-use lib.ListN.{length, getD, set, drop}
 use borrow.Author.Tests.{ltb-true, leb-true}
 use Rattle.units.proofs.Cases.{both}
-use Rattle.buffers.specs.Ranges.{replace}
-use Rattle.kcs.specs.declared.Control.{Control}
-use Rattle.kcs.specs.Port.{Phase, idle, writing, ending, awaiting, reading, aborting, failed, stateBits}
+use Rattle.kcs.specs.Port.{Control, Phase, idle, writing, ending, awaiting, reading, aborting, failed, stateBits}
 use Rattle.kcs.specs.Effects.{Keeps, Completes, TooLong, Tells, Continues, Finishes, WrongCode, onData, hasNext, isKept, dataStep}
-use Rattle.kcs.specs.Accesses.{isTaken, afterAnswer}
+use Rattle.kcs.specs.Accesses.{isTaken}
 use Rattle.kcs.proofs.Phases.{each-phase}
 
 pub next-inside : (c : Control) → hasNext c ≡ true → c .next < 64
 next-inside c more = ltb-true (c .next) 64 (both (ltb (c .next) (c .end)) (ltb (c .next) 64) more .1)
+
+pub taken-short : (n : ℕ) (c : Control) → isTaken n c ≡ true → n ≤ 64
+taken-short n c taken = leb-true n 64 (both (leb n 64) (eqb (c .phase) 3) taken .0)
 
 -- ---- what is kept
 
@@ -50,28 +48,6 @@ kept-inside byte given c =
     (λ _ e. absurd (none-read (eqb byte 0x68) (hasNext c) e))
     (λ _ e. absurd (none-aborted (eqb byte 0x00) e))
     (λ e. absurd (false≢true e))
-
-pub set-replaces : (xs : List ℕ) (at byte : ℕ) → at < length xs → set xs at byte ≡ replace at (byte ∷ []) xs
-set-replaces [] at byte inside = absurd (omega (arith, inside))
-set-replaces (x ∷ xs) zero byte inside = refl
-set-replaces (x ∷ xs) (suc at) byte inside =
-    simp unary-clauses (simp unary-clauses at (ap (λ (ys : List ℕ). x ∷ ys) (set-replaces xs at byte (omega (arith, inside)))))
-
--- ---- the answer
-
-pub taken-short : (n : ℕ) (c : Control) → isTaken n c ≡ true → n ≤ 64
-taken-short n c taken = leb-true n 64 (both (leb n 64) (eqb (c .phase) 3) taken .0)
-
-pub front-replaced : (ys xs : List ℕ) → ys ++ drop (length ys) xs ≡ replace 0 ys xs
-front-replaced ys xs =
-    let from-zero : length ys ≡ 0 + length ys = omega arith in
-    ap (λ (n : ℕ). ys ++ drop n xs) from-zero
-
--- an empty response has no first byte, and none is put out
-pub first-of
-    : (bytes rest : List ℕ) (c : Control) → afterAnswer (length bytes) (getD (bytes ++ rest) 0 0) c ≡ afterAnswer (length bytes) (getD bytes 0 0) c
-first-of [] rest c = refl
-first-of (x ∷ xs) rest c = refl
 
 -- ---- the status register
 

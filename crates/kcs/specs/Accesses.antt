@@ -5,9 +5,7 @@ use mathlib.Core.List.{List, [], _∷_}
 use lib.Dec.{eqb, leb}
 use lib.ListN.{length, getD, take}
 use Rattle.buffers.specs.Ranges.{replace}
-use Rattle.kcs.specs.declared.Control.{Control}
-use Rattle.kcs.specs.declared.Port.{Port}
-use Rattle.kcs.specs.Port.{idle, awaiting, reading, phaseOf, numberOf, isSet, statusOf}
+use Rattle.kcs.specs.Port.{Control, Port, idle, awaiting, reading, phaseOf, numberOf, isSet, statusOf}
 use Rattle.kcs.specs.Effects.{onCommand, hasNext, left, dataStep, showing, withCommand, withFault, withPlace}
 
 -- the port with other controls

@@ -2,9 +2,7 @@
 use Prim.Native.Nat.{ℕ, _+_}
 use mathlib.Core.Bool.{Bool, true, false, cond, _&&_}
 use lib.Dec.{eqb, ltb}
-use Rattle.kcs.specs.declared.Control.{Control}
-use Rattle.kcs.specs.declared.DataStep.{DataStep}
-use Rattle.kcs.specs.Port.{Phase, idle, writing, ending, awaiting, reading, aborting, failed, phaseOf, numberOf}
+use Rattle.kcs.specs.Port.{Control, Phase, idle, writing, ending, awaiting, reading, aborting, failed, phaseOf, numberOf}
 
 -- what a write does
 pub data Effect : Type 0 where
@@ -133,13 +131,15 @@ isLast TooLong = false
 abbrev pub toldLength : Effect → Control → ℕ
 toldLength effect c = cond (isLast effect) (c .length + 1) 0
 
+-- what a data byte leaves of the controls, whether it is kept in the request, and the length of the message that is complete with it, or 0
+pub record DataStep : Type 0 where
+  pub control : Control
+  pub kept : Bool
+  pub length : ℕ
+
 -- what an effect of a data byte leaves of the controls, whether the byte is kept, and the length that is told
 abbrev pub stepOf : Effect → (given : ℕ) → Control → DataStep
 stepOf effect given c = record { control = left effect given c; kept = isKept effect; length = toldLength effect c }
-
--- the same of an effect that keeps no byte and completes no message
-abbrev pub notKept : Control → DataStep
-notKept c = record { control = c; kept = false; length = 0 }
 
 -- a write to Data_In: C/D#, which "specifies whether the last write was to the Command register or the Data_In register", is 0, also where it is refused
 abbrev pub dataStep : (byte given : ℕ) → Control → DataStep

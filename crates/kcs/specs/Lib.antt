@@ -1,3 +1,4 @@
 pub mod Port
 pub mod Effects
 pub mod Accesses
+pub mod Bytes

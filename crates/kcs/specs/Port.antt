@@ -1,10 +1,32 @@
 -- A KCS port: its phases with their state bits, and the status register. 001 (IPMI, section 9), 9.5 and 9.7; 02, Ticket 3, "House". Codes and bits are hex.
 use Prim.Native.Nat.{ℕ, _+_, _*_}
 use mathlib.Core.Bool.{Bool, cond, not}
+use mathlib.Core.List.{List}
 use lib.Dec.{eqb}
 use lib.ListN.{replicate}
-use Rattle.kcs.specs.declared.Control.{Control}
-use Rattle.kcs.specs.declared.Port.{Port}
+
+-- all of a port but its two buffers
+pub record Control : Type 0 where
+  -- the number of the phase
+  pub phase : ℕ
+  -- the status bits C/D# and OBF
+  pub command : ℕ
+  pub full : ℕ
+  -- Data_Out: the byte that a read gets while OBF is set
+  pub output : ℕ
+  -- the status that a GET_STATUS/ABORT tells
+  pub fault : ℕ
+  -- how many bytes of the request there are
+  pub length : ℕ
+  -- which byte of the response is the next, and how many it has
+  pub next : ℕ
+  pub end : ℕ
+
+-- a port, with 64 bytes in each buffer
+pub record Port : Type 0 where
+  pub control : Control
+  pub request : List ℕ
+  pub response : List ℕ
 
 -- the phases
 pub data Phase : Type 0 where

@@ -6,12 +6,11 @@ use native.Mathlib.Omega.{arith}
 use lib.ListN.{length, drop, length-append}
 use lib.Seq.{take-take}
 use Rattle.buffers.proofs.Replace.{range-length}
-use Rattle.kcs.specs.declared.Port.{Port}
-use Rattle.kcs.specs.Port.{fresh}
+use Rattle.kcs.specs.Port.{Port, fresh}
 use Rattle.kcshost.specs.Runs.{stepped, steppedAll}
 use Rattle.kcshost.specs.Rows.{Long}
 use Rattle.kcshost.proofs.Lengths.{stays-long}
-use Rattle.kcsboard.specs.Bytes.{controlBytes, portOf, bytesOf}
+use Rattle.kcs.specs.Bytes.{controlBytes, portOf, bytesOf}
 use Rattle.kcsboard.specs.Follows.{called, Follows, FreshFollows, MessageBytes}
 use Rattle.kcsboard.proofs.RoundTrip.{round-trip}
 

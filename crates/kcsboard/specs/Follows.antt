@@ -8,7 +8,7 @@ use Rattle.buffers.specs.Ranges.{range}
 use Rattle.kcs.specs.Port.{fresh}
 use Rattle.kcs.specs.Accesses.{message}
 use Rattle.kcshost.specs.Runs.{Step, stepped, steppedAll}
-use Rattle.kcsboard.specs.Bytes.{portOf, bytesOf}
+use Rattle.kcs.specs.Bytes.{portOf, bytesOf}
 
 -- what a call leaves of the record, by its contract
 abbrev pub called : Step → List ℕ → List ℕ

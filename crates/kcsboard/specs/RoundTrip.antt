@@ -3,8 +3,8 @@ use mathlib.Core.Path.{_≡_}
 use mathlib.Core.List.{List}
 use Prim.Native.Nat.{ℕ}
 use lib.ListN.{length}
-use Rattle.kcs.specs.declared.Port.{Port}
-use Rattle.kcsboard.specs.Bytes.{portOf, bytesOf}
+use Rattle.kcs.specs.Port.{Port}
+use Rattle.kcs.specs.Bytes.{portOf, bytesOf}
 
 -- the 136 bytes of a record are those of the port that they stand for, and a port with 64 bytes in each buffer is the one that its bytes stand for
 abbrev pub RoundTrip : Type 0

@@ -3,17 +3,15 @@
 // An access is lent the 136 bytes of C's record, so that no buffer of it is copied. Every record, every byte and every length gets
 // an answer. References that C lends must be valid and must not overlap: include/kcs.h.
 mod accesses;
-mod bytes;
 
 pub use accesses::kcs_read_data;
 pub use accesses::kcs_respond;
 pub use accesses::kcs_status;
 pub use accesses::kcs_write_command;
 pub use accesses::kcs_write_data;
-use kcs::new_port;
 ghost use mathlib.Core.Path.{_≡_};
 ghost use Rattle.kcs.specs.Port.{fresh};
-ghost use Rattle.kcsboard.specs.Bytes.{recordOf};
+ghost use Rattle.kcsboard.specs.Record.{recordOf};
 
 // A port as C keeps it.
 #[repr(C)]
@@ -41,20 +39,16 @@ pub struct Record {
 pub extern "C" fn kcs_fresh() -> Record
     ensures { λ r. ⌜ r ≡ recordOf fresh ⌝ }
 {
-    let port = new_port();
-    let control = port.control;
-    let request = port.request;
-    let response = port.response;
     Record {
-        phase: control.phase,
-        command: control.command,
-        full: control.full,
-        output: control.output,
-        fault: control.fault,
-        length: control.length,
-        next: control.next,
-        end: control.end,
-        request,
-        response,
+        phase: 0,
+        command: 0,
+        full: 0,
+        output: 0,
+        fault: 0,
+        length: 0,
+        next: 0,
+        end: 0,
+        request: [0; 64],
+        response: [0; 64],
     }
 }

@@ -4,8 +4,7 @@ use mathlib.Core.Bool.{Bool, true, false, cond}
 use Prim.Native.Nat.{ℕ, _+_, _*_, _/_, _%_}
 use native.Mathlib.Omega.{arith}
 use lib.Dec.{eqb}
-use Rattle.kcs.specs.declared.Port.{Port}
-use Rattle.kcs.specs.Port.{phaseOf, stateBits, isSet}
+use Rattle.kcs.specs.Port.{Port, phaseOf, stateBits, isSet}
 use Rattle.kcs.specs.Accesses.{statusRead}
 use Rattle.kcshost.specs.Runs.{readData}
 use Rattle.kcshost.specs.Host.{stateSeen, ibfSeen, obfSeen, waits, errorExit, Transfer, Chart, leaves, does, waitIbf, waitObf, clearObf, expect, ifReading}

@@ -6,7 +6,7 @@ use native.Mathlib.Omega.{arith}
 use lib.ListN.{length}
 use Rattle.units.proofs.Cases.{chosen}
 use Rattle.buffers.proofs.Replace.{replace-length}
-use Rattle.kcs.specs.declared.Port.{Port}
+use Rattle.kcs.specs.Port.{Port}
 use Rattle.kcs.specs.Effects.{dataStep}
 use Rattle.kcs.specs.Accesses.{nextByte, answers}
 use Rattle.kcs.proofs.Taking.{kept-inside, taken-short}

@@ -2,7 +2,7 @@
 use mathlib.Core.Path.{_≡_, refl, ap}
 use mathlib.Core.List.{List, [], _∷_, _++_}
 use Prim.Native.Nat.{ℕ}
-use Rattle.kcs.specs.declared.Port.{Port}
+use Rattle.kcs.specs.Port.{Port}
 use Rattle.kcs.specs.Accesses.{byteRead}
 use Rattle.kcshost.specs.Runs.{Access, readStatus, readData, writeCommand, writeData, accessed, accessedAll, handed, handedAll, outOfAll, countedAll}
 

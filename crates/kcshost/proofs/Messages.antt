@@ -12,9 +12,7 @@ use borrow.Author.Tests.{eqb-true, eq-eqb, ne-eqb}
 use Rattle.units.proofs.Cases.{chosen, decided}
 use Rattle.units.proofs.Keys.{has}
 use Rattle.buffers.specs.Ranges.{replace}
-use Rattle.kcs.specs.declared.Control.{Control}
-use Rattle.kcs.specs.declared.Port.{Port}
-use Rattle.kcs.specs.Port.{Phase, writing, ending, phaseOf}
+use Rattle.kcs.specs.Port.{Control, Port, Phase, writing, ending, phaseOf}
 use Rattle.kcs.specs.Effects.{Effect, Aborts, Keeps, Completes, Tells, Continues, Finishes, TooLong, WrongCode, onEnd, onData, hasRoom, hasNext, dataEffect, left, isKept, toldLength, withCommand}
 use Rattle.kcs.specs.Accesses.{withControl, commandWritten, dataWritten, nextByte, message, answered}
 use Rattle.kcs.proofs.Phases.{each-phase, no-end}

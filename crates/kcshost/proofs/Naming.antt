@@ -8,9 +8,7 @@ use lib.Dec.{eqb}
 use lib.ListN.{length}
 use borrow.Author.Tests.{eqb-true}
 use Rattle.units.proofs.Cases.{chosen}
-use Rattle.kcs.specs.declared.Control.{Control}
-use Rattle.kcs.specs.declared.Port.{Port}
-use Rattle.kcs.specs.Port.{phaseOf, stateBits}
+use Rattle.kcs.specs.Port.{Control, Port, phaseOf, stateBits}
 use Rattle.kcs.specs.Effects.{Effect, Opens, Closes, Aborts, Keeps, Completes, Tells, Continues, Finishes, WrongCode, TooLong, onEnd, onCommand, onData, hasRoom, hasNext, dataEffect, left, withCommand}
 use Rattle.kcs.specs.Accesses.{commandWritten, nextByte, dataWritten, answers}
 use Rattle.kcs.proofs.Phases.{each-phase}

@@ -8,8 +8,7 @@ use lib.Dec.{eqb}
 use lib.ListN.{length, getD, drop, List·getD-append}
 use borrow.Author.Tests.{le-leb, eq-eqb, ne-eqb}
 use Rattle.buffers.specs.Ranges.{replace}
-use Rattle.kcs.specs.declared.Port.{Port}
-use Rattle.kcs.specs.Port.{Phase, idle, writing, ending, awaiting, reading, aborting, failed, phaseOf, stateBits, isSet}
+use Rattle.kcs.specs.Port.{Port, Phase, idle, writing, ending, awaiting, reading, aborting, failed, phaseOf, stateBits, isSet}
 use Rattle.kcs.specs.Accesses.{statusRead, afterAnswer, answered}
 use Rattle.kcs.proofs.Phases.{each-phase}
 use Rattle.kcshost.specs.Runs.{Access, readData, accessedAll, outOfAll}

@@ -5,7 +5,7 @@ use Prim.Native.Nat.{ℕ, zero, suc, _+_, _≤_, _<_}
 use native.Mathlib.Omega.{arith}
 use lib.ListN.{length, getD}
 use borrow.Author.Tests.{lt-ltb, le-ltb}
-use Rattle.kcs.specs.declared.Port.{Port}
+use Rattle.kcs.specs.Port.{Port}
 use Rattle.kcs.specs.Accesses.{dataRead, dataWritten}
 use Rattle.kcshost.specs.Runs.{Access, readData, writeData, accessedAll, outOfAll}
 use Rattle.kcshost.specs.Host.{ends, leaves, does, put, waitObf, receive, ifReading, conclude, readTransfer}

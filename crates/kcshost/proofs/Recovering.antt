@@ -3,8 +3,7 @@ use mathlib.Core.Path.{_≡_, refl, sym, ap, _∙_}
 use mathlib.Core.List.{List, [], _∷_}
 use Prim.Native.Nat.{ℕ}
 use native.Mathlib.Omega.{arith}
-use Rattle.kcs.specs.declared.Port.{Port}
-use Rattle.kcs.specs.Port.{fresh}
+use Rattle.kcs.specs.Port.{Port, fresh}
 use Rattle.kcs.specs.Accesses.{statusRead, dataRead}
 use Rattle.kcshost.specs.Runs.{Access, readData, writeCommand, writeData, accessedAll, outOfAll, steppedAll}
 use Rattle.kcshost.specs.Host.{ends, Transfer, begin, leaves, does, put, waitIbf, waitObf, clearObf, expect, receive, conclude, receiveStatus, requestStatus, recovery}

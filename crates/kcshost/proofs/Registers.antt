@@ -9,9 +9,7 @@ use lib.Dec.{eqb, leb}
 use lib.ListN.{length}
 use borrow.Author.Tests.{eqb-true, ne-eqb, lt-leb, not-false}
 use Rattle.units.proofs.Cases.{chosen}
-use Rattle.kcs.specs.declared.Control.{Control}
-use Rattle.kcs.specs.declared.Port.{Port}
-use Rattle.kcs.specs.Port.{awaiting, phaseOf, isSet, fresh}
+use Rattle.kcs.specs.Port.{Control, Port, awaiting, phaseOf, isSet, fresh}
 use Rattle.kcs.specs.Effects.{Effect, Opens, Closes, Aborts, Keeps, Completes, Tells, Continues, Finishes, WrongCode, TooLong, onEnd, onCommand, dataEffect, left, isLast, withCommand}
 use Rattle.kcs.specs.Accesses.{dataRead, commandWritten, nextByte, dataWritten, answers, answered}
 use Rattle.kcs.proofs.Phases.{each-phase}

@@ -8,9 +8,7 @@ use native.Mathlib.Omega.{arith}
 use lib.Dec.{ltb}
 use lib.ListN.{length, getD}
 use borrow.Author.Tests.{lt-ltb, le-ltb, le-leb, eq-eqb, ne-eqb}
-use Rattle.kcs.specs.declared.Control.{Control}
-use Rattle.kcs.specs.declared.Port.{Port}
-use Rattle.kcs.specs.Port.{Phase, idle, writing, ending, awaiting, reading, aborting, failed, phaseOf}
+use Rattle.kcs.specs.Port.{Control, Port, Phase, idle, writing, ending, awaiting, reading, aborting, failed, phaseOf}
 use Rattle.kcs.specs.Effects.{Effect, Closes, Keeps, Completes, Tells, Continues, Finishes, WrongCode, TooLong, onEnd, onCommand, onData, hasRoom, hasNext, left, withCommand}
 use Rattle.kcs.specs.Accesses.{withControl, commandWritten, dataWritten, answers}
 use Rattle.kcs.proofs.Phases.{no-end}

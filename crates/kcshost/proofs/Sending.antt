@@ -9,7 +9,7 @@ use lib.ListN.{length, drop, length-append}
 use lib.Seq.{take-at, drop-append-add}
 use borrow.Author.Tests.{lt-ltb, ne-eqb}
 use Rattle.buffers.specs.Ranges.{replace}
-use Rattle.kcs.specs.declared.Port.{Port}
+use Rattle.kcs.specs.Port.{Port}
 use Rattle.kcs.specs.Accesses.{dataRead, dataWritten, lengthTold, message}
 use Rattle.kcshost.specs.Runs.{Access, readData, writeCommand, writeData, accessed, accessedAll, handed, handedAll, isNone}
 use Rattle.kcshost.specs.Host.{goes, ends, Transfer, leaves, does, put, waitIbf, clearObf, expect, writeBytes}

@@ -10,8 +10,7 @@ use lib.ListN.{length, getD, drop, List·getD-append, List·getD-eq-default}
 use borrow.Author.Tests.{eqb-true, lt-ltb, le-ltb}
 use Rattle.units.proofs.Cases.{both, below-or}
 use Rattle.buffers.specs.Ranges.{replace}
-use Rattle.kcs.specs.declared.Port.{Port}
-use Rattle.kcs.specs.Port.{phaseOf}
+use Rattle.kcs.specs.Port.{Port, phaseOf}
 use Rattle.kcs.specs.Effects.{Effect, Continues, Finishes, onData, hasRoom, hasNext}
 use Rattle.kcs.specs.Accesses.{statusRead, byteRead, dataRead, dataWritten, answered}
 use Rattle.kcshost.specs.Runs.{Access, readStatus, readData, writeCommand, writeData, accessedAll}

@@ -8,9 +8,7 @@ use lib.ListN.{length}
 use borrow.Author.Tests.{ne-eqb, not-true}
 use Rattle.units.proofs.Cases.{chosen, both}
 use Rattle.units.proofs.Keys.{has}
-use Rattle.kcs.specs.declared.Control.{Control}
-use Rattle.kcs.specs.declared.Port.{Port}
-use Rattle.kcs.specs.Port.{phaseOf}
+use Rattle.kcs.specs.Port.{Control, Port, phaseOf}
 use Rattle.kcs.specs.Effects.{Effect, onData, hasRoom, hasNext, dataEffect, left, isKept, withCommand}
 use Rattle.kcs.specs.Accesses.{commandWritten, dataWritten, answers, answered}
 use Rattle.kcs.proofs.Phases.{each-phase, no-end}

@@ -6,8 +6,7 @@ use Prim.Native.Nat.{ℕ, zero, suc, _/_}
 use native.Mathlib.Omega.{arith}
 use lib.Dec.{eqb}
 use lib.ListN.{length}
-use Rattle.kcs.specs.declared.Port.{Port}
-use Rattle.kcs.specs.Port.{phaseOf, stateBits, isSet}
+use Rattle.kcs.specs.Port.{Port, phaseOf, stateBits, isSet}
 use Rattle.kcs.specs.Accesses.{dataRead, answered}
 use Rattle.buffers.specs.Ranges.{replace}
 use Rattle.kcshost.specs.Runs.{readData, writeData}

@@ -7,8 +7,7 @@ use Prim.Native.Nat.{ℕ, _≤_}
 use native.Mathlib.Omega.{arith}
 use lib.ListN.{length}
 use Rattle.units.proofs.Cases.{decided}
-use Rattle.kcs.specs.declared.Port.{Port}
-use Rattle.kcs.specs.Port.{phaseOf, isSet}
+use Rattle.kcs.specs.Port.{Port, phaseOf, isSet}
 use Rattle.kcs.specs.Accesses.{statusRead, dataRead}
 use Rattle.kcshost.specs.Runs.{Access, readData, writeCommand, accessedAll, countedAll}
 use Rattle.kcshost.specs.Host.{Transfer, begin, clearObf, does, put, writeBytes, writeTransfer}

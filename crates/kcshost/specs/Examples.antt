@@ -6,8 +6,7 @@ use mathlib.Core.Bool.{Bool, true, cond, _&&_}
 use mathlib.Core.List.{List, [], _∷_, _++_}
 use lib.Dec.{eqb}
 use lib.ListN.{replicate}
-use Rattle.kcs.specs.declared.Port.{Port}
-use Rattle.kcs.specs.Port.{fresh}
+use Rattle.kcs.specs.Port.{Port, fresh}
 use Rattle.kcs.specs.Accesses.{statusRead, byteRead, lengthTold, answers}
 use Rattle.kcshost.specs.Runs.{readStatus, readData, writeCommand, writeData, Step, access, answer, stepped}
 

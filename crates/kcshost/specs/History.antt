@@ -7,8 +7,7 @@ use mathlib.Core.Bool.{Bool, true, false, cond, not, _&&_}
 use mathlib.Core.List.{List, [], _∷_, _++_}
 use lib.Dec.{eqb, ltb, leb}
 use lib.ListN.{length, getD}
-use Rattle.kcs.specs.declared.Port.{Port}
-use Rattle.kcs.specs.Port.{Phase, idle, writing, ending, awaiting, reading, aborting, failed, phaseOf}
+use Rattle.kcs.specs.Port.{Port, Phase, idle, writing, ending, awaiting, reading, aborting, failed, phaseOf}
 use Rattle.kcs.specs.Accesses.{statusRead, byteRead, commandWritten, dataWritten, answers, answered}
 use Rattle.kcshost.specs.Runs.{Access, readStatus, readData, writeCommand, writeData, accessedAll, Step, access, answer, stepped, steppedAll, handedIn}
 use Rattle.kcshost.specs.Host.{stateSeen}

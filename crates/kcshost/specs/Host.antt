@@ -5,7 +5,7 @@ use Prim.Native.Nat.{ℕ, zero, suc, _/_, _%_}
 use mathlib.Core.Bool.{Bool, cond}
 use mathlib.Core.List.{List, [], _∷_, _++_}
 use lib.Dec.{eqb}
-use Rattle.kcs.specs.declared.Port.{Port}
+use Rattle.kcs.specs.Port.{Port}
 use Rattle.kcs.specs.Accesses.{statusRead, byteRead}
 use Rattle.kcshost.specs.Runs.{Access, readData, writeCommand, writeData, accessed}
 

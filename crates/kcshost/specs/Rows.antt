@@ -7,8 +7,7 @@ use mathlib.Core.List.{List, [], _∷_}
 use mathlib.Core.Logic.{_⊎_}
 use lib.Dec.{eqb}
 use lib.ListN.{length, getD}
-use Rattle.kcs.specs.declared.Port.{Port}
-use Rattle.kcs.specs.Port.{idle, writing, ending, awaiting, reading, aborting, failed, phaseOf, fresh}
+use Rattle.kcs.specs.Port.{Port, idle, writing, ending, awaiting, reading, aborting, failed, phaseOf, fresh}
 use Rattle.kcs.specs.Accesses.{statusRead, byteRead, dataRead, commandWritten, dataWritten, lengthTold, answers, answered}
 use Rattle.kcshost.specs.Runs.{Step, steppedAll}
 use Rattle.kcshost.specs.Host.{stateSeen, obfSeen}

@@ -3,7 +3,7 @@ use Prim.Native.Nat.{ℕ}
 use mathlib.Core.Bool.{Bool, true, false, cond}
 use mathlib.Core.List.{List, [], _∷_, _++_}
 use lib.Dec.{eqb}
-use Rattle.kcs.specs.declared.Port.{Port}
+use Rattle.kcs.specs.Port.{Port}
 use Rattle.kcs.specs.Accesses.{byteRead, dataRead, commandWritten, dataWritten, lengthTold, message, answered}
 
 -- an access of the host to one of the four registers (001, 9.5)

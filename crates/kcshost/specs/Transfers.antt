@@ -5,8 +5,7 @@ use mathlib.Core.Path.{_≡_}
 use mathlib.Core.Bool.{false, cond}
 use mathlib.Core.List.{List, [], _∷_, _++_}
 use lib.ListN.{length}
-use Rattle.kcs.specs.declared.Port.{Port}
-use Rattle.kcs.specs.Port.{awaiting, phaseOf, fresh}
+use Rattle.kcs.specs.Port.{Port, awaiting, phaseOf, fresh}
 use Rattle.kcs.specs.Accesses.{statusRead, answered}
 use Rattle.kcshost.specs.Runs.{Access, accessedAll, handedAll, outOfAll, countedAll, isNone, Step, steppedAll}
 use Rattle.kcshost.specs.Host.{stateSeen, obfSeen, ends, errorExit, waits, Transfer, begin, seen, writeTransfer, readTransfer, readOn, recovery}

@@ -1,18 +1,17 @@
 -- `kcsboard::accesses::kcs_status` meets its contract.
-use mathlib.Core.Path.{ap, _∙_}
-use Rattle.kcs.specs.Port.{statusOf}
+use mathlib.Core.Path.{_≡_}
+use lib.ListN.{length}
 use borrow.Author.Needs.{needs}
 use Rattle.kcsboard.proofs.accesses.kcs_status.Statement.{statement}
 use Rattle.kcsboard.proofs.accesses.kcs_status.Tie as tie
 
-control-of-requires : tie.Need-control-of-requires
-control-of-requires c κs = search needs
-
-status-of-requires : tie.Need-status-of-requires
-status-of-requires c κs = search needs
+read-status-in-place-requires : tie.Need-read-status-in-place-requires
+read-status-in-place-requires c κs = search needs
 
 returns : tie.Need-returns
-returns c = c .status-of .ensures ∙ ap statusOf (c .before .control-of .ensures)
+returns c =
+    let long : length (c .before .before .args .port .now) ≡ 136 = search needs in
+    c .read-status-in-place .ensures .0 long
 
 pub kcs-status-spec : {M : Type 1} → statement M
-kcs-status-spec = tie.close (tie.spec control-of-requires status-of-requires returns)
+kcs-status-spec = tie.close (tie.spec read-status-in-place-requires returns)

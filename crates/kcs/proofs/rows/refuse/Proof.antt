@@ -1,0 +1,28 @@
+-- `kcs::rows::refuse` meets its contract.
+use mathlib.Core.Path.{refl, _∙_}
+use mathlib.Core.List.{List}
+use Prim.Native.Nat.{ℕ}
+use lib.ListN.{set, length-set}
+use Rattle.kcs.specs.Effects.{shown, withFault}
+use Rattle.kcs.proofs.Places.{after}
+use borrow.Author.Needs.{needs}
+use Rattle.kcs.proofs.rows.refuse.Statement.{statement}
+use Rattle.kcs.proofs.rows.refuse.Tie as tie
+
+slice-write-port : tie.Need-slice-write-port
+slice-write-port c = search needs
+
+show-requires : tie.Need-show-requires
+show-requires c κs = search needs
+
+same-length : tie.Need-same-length
+same-length c = rw (c .before .before .show .kept .0) (simp length-set refl)
+
+returns : tie.Need-returns
+returns c =
+    let a = c .before .before .before .before .before .args in
+    c .before .before .show .ensures
+    ∙ after (shown 6 0x00) (λ (xs : List ℕ). set xs 4 (a .fault)) (withFault (a .fault)) (λ k t. refl) (a .port .now) (c .before .before .before .before .before .pre)
+
+pub refuse-spec : {M : Type 1} → statement M
+refuse-spec = tie.close (tie.spec slice-write-port show-requires same-length returns)
