@@ -1,4 +1,4 @@
-// Worked cases of the leaves, run and printed: units, numbers in seven-bit groups, chip actions.
+// Worked cases of the leaves, run and printed: units, numbers in seven-bit groups, chip actions, a KCS port by value.
 //
 // The file stdout beside src/ has what document 01 makes of each case; it is written from the
 // document, with the reason for each line in docs/VECTORS.md.
@@ -31,6 +31,7 @@ fn main() {
     read(b"\x80\x80");
     read(b"");
     chip_actions();
+    kcs_exchange();
 }
 
 // A number and a space.
@@ -142,4 +143,36 @@ fn chip_actions() {
     shown(past, &flash);
     let seventeenth = chip::program_page(&mut flash, &window, Blocks(0), 16);
     shown(seventeenth, &flash);
+}
+
+// What an access to a KCS port gave, and the status after it.
+fn port_line(given: u8, port: kcs::Port) {
+    word(b"kcs ");
+    number(given as u64);
+    number(kcs::read_status(port) as u64);
+    word(b"\n");
+}
+
+// A message of two bytes, handed in and back by value, and its answer of two.
+fn kcs_exchange() {
+    let opened = kcs::write_command(kcs::new_port(), 0x61);
+    port_line(0, opened);
+    let kept = kcs::write_data(opened, 0x18);
+    port_line(kept.length, kept.port);
+    let closed = kcs::write_command(kept.port, 0x62);
+    port_line(0, closed);
+    let last = kcs::write_data(closed, 0x01);
+    port_line(last.length, last.port);
+    let answered = kcs::respond(last.port, b"\x1c\x01");
+    port_line(answered.taken as u8, answered.port);
+    let first = kcs::read_data(answered.port);
+    port_line(first.byte, first.port);
+    let asked = kcs::write_data(first.port, 0x68);
+    port_line(asked.length, asked.port);
+    let second = kcs::read_data(asked.port);
+    port_line(second.byte, second.port);
+    let finished = kcs::write_data(second.port, 0x68);
+    port_line(finished.length, finished.port);
+    let dummy = kcs::read_data(finished.port);
+    port_line(dummy.byte, dummy.port);
 }
