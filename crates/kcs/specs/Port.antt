@@ -22,7 +22,7 @@ pub record Control : Type 0 where
   pub next : ℕ
   pub end : ℕ
 
--- a port, with 64 bytes in each buffer
+-- a port: its controls and its two buffers
 pub record Port : Type 0 where
   pub control : Control
   pub request : List ℕ

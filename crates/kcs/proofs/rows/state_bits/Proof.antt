@@ -1,6 +1,5 @@
 -- `kcs::rows::state_bits` meets its contract.
 use borrow.Author.Tests.{ne-eqb}
--- `kcs::rows::state_bits` meets its contract.
 use mathlib.Core.Path.{_≡_}
 use Rattle.kcs.proofs.rows.state_bits.Statement.{statement}
 use Rattle.kcs.proofs.rows.state_bits.Tie as tie
