@@ -33,7 +33,7 @@ controlBytes c = c .phase ∷ c .command ∷ c .full ∷ c .output ∷ c .fault 
 abbrev pub bytesOf : Port → List ℕ
 bytesOf p = controlBytes (p .control) ++ (p .request ++ p .response)
 
--- what an effect of a data byte leaves of a port: what it keeps stands behind the bytes before it
+-- what an effect of a data byte leaves of a port: what it keeps stands behind the bytes before it. For a private function, `keep`
 abbrev pub effected : Effect → (given byte : ℕ) → Port → Port
 effected effect given byte p =
     record {
