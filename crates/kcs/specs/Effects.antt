@@ -86,9 +86,10 @@ abbrev pub withPlace : ℕ → ℕ → Control → Control
 withPlace next end c =
     record { phase = c .phase; command = c .command; full = c .full; output = c .output; fault = c .fault; length = c .length; next = next; end = end }
 
--- row by row. After 00 the status is the only byte that is read: the response that may have been there is forgotten, so that 68 leads to idle. OBF: "a write that completes a message clears OBF, each other sets it, with 00 where the standard names no byte": it names the status and the
--- response's bytes, and here the next one is given. The status that 60 tells: "that of the last error since idle or 61, otherwise 01 if 61 came since idle, else
--- 00"; 60 itself forgets nothing. "Refusals: a wrong code (02), then a request beyond 64 bytes (06), both the error state, with that status after 60"
+-- row by row. After 00 the status is the only byte that is read: the response that may have been there is forgotten, so that 68 leads to idle. OBF: "a write
+-- that completes a message clears OBF, each other sets it, with 00 where the standard names no byte": it names the status and the response's bytes, and here
+-- the next one is given. The status that 60 tells: "that of the last error since idle or 61, otherwise 01 if 61 came since idle, else 00"; 60 itself forgets
+-- nothing. "Refusals: a wrong code (02), then a request beyond 64 bytes (06), both the error state, with that status after 60"
 abbrev pub left : Effect → (given : ℕ) → Control → Control
 left Opens given c = showing writing 0x00 (withFault 0x01 (withLength 0 c))
 left Closes given c = showing ending 0x00 c

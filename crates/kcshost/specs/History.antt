@@ -1,6 +1,6 @@
 -- What a port has of its history, over any list of accesses and answers: which messages it hands over and whether an answer is awaited, said by the list itself; how long a
 -- message stays, and in which order a response is shown; and the status that 60 tells, by the errors and idle states that the port shows on the way (which these are is
--- `TakenAsSaid`, Rows.antt). 02, Ticket 3. Proved in proofs/Messages.antt, Shown.antt and Naming.antt.
+-- `TakenAsSaid`, Rows.antt). 02, Ticket 3. Proved in proofs/Messages.antt, Staying.antt, Shown.antt and Naming.antt.
 use Prim.Native.Nat.{ℕ, suc, _≤_, _<_}
 use mathlib.Core.Path.{_≡_}
 use mathlib.Core.Bool.{Bool, true, false, cond, not, _&&_}
