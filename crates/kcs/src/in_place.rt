@@ -1,4 +1,4 @@
-// Each access of the host, and the controller's answer, over the port's bytes: a branch stores what it changes, and nothing else.
+// Each access of the host, and the controller's answer, over the port's bytes: a branch stores the bytes that it may change alone.
 //
 // A slice that has not 136 bytes is no port: it stays as it is.
 use crate::rows::COMMAND;
@@ -8,7 +8,6 @@ use crate::rows::LENGTH;
 use crate::rows::OUTPUT;
 use crate::rows::PHASE;
 use crate::rows::SIZE;
-use crate::rows::abort;
 use crate::rows::bit;
 use crate::rows::finish;
 use crate::rows::is_taken;
@@ -19,6 +18,7 @@ use crate::rows::read_on;
 use crate::rows::refuse;
 use crate::rows::show;
 use crate::rows::state_bits;
+use crate::rows::tell;
 ghost use mathlib.Core.Path.{_≡_};
 ghost use mathlib.Core.Bool.{false};
 ghost use lib.ListN.{length};
@@ -96,7 +96,7 @@ pub fn write_data_in_place(port: &mut [u8], byte: u8) -> u8
     }
     let phase = port[PHASE];
     port[COMMAND] = 0;
-    // one arm for both phases of a request: a fourth would make this a jump through a table, which is slower
+    // one arm for both phases of a request: with two, this becomes a jump through a table, which is slower
     match phase {
         1 | 2 => keep(port, byte, phase == 2),
         4 => {
@@ -104,7 +104,7 @@ pub fn write_data_in_place(port: &mut [u8], byte: u8) -> u8
             0
         }
         5 => {
-            abort(port, byte);
+            tell(port, byte);
             0
         }
         _ => {

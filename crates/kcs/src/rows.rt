@@ -1,4 +1,4 @@
-// What the rows of the table store: each only what it changes.
+// What the rows of the table store: each only the bytes that it may change.
 use buffers::copy;
 ghost use Prim.Native.Nat.{ℕ, _+_, _≤_};
 ghost use mathlib.Core.Path.{_≡_};
@@ -43,7 +43,7 @@ const RESPONSE: usize = 72;
 
 // ---- the status register
 
-// A bit of it, where the number stands for set.
+// The value of a bit that this number says is set or not.
 pub(crate) fn bit(number: u8, value: u8) -> u8
     ensures { λ r. ⌜ r ≡ cond (isSet number) value 0 ⌝ }
 {
@@ -140,7 +140,7 @@ fn has_next(next: u8, end: u8) -> bool
     next < end && next < 64
 }
 
-// All was read, and the port is idle.
+// All was read, or there is nothing to read: the port is idle.
 pub(crate) fn finish(port: &mut [u8])
     requires { ⌜ length (now port) ≡ 136 ⌝ }
     ensures { λ _. ⌜ now (port .exit) ≡ bytesOf (withControl (left Finishes 0x00 (controlOf (now (port .entry)))) (portOf (now (port .entry)))) ⌝ }
@@ -150,7 +150,7 @@ pub(crate) fn finish(port: &mut [u8])
 }
 
 // A data byte that follows 60: 00 gets the status, which is all that is read then.
-pub(crate) fn abort(port: &mut [u8], byte: u8)
+pub(crate) fn tell(port: &mut [u8], byte: u8)
     requires { ⌜ length (now port) ≡ 136 ⌝ }
     ensures { λ _. ⌜ ((given : ℕ) → now (port .exit) ≡ bytesOf (withControl
         (left (onData aborting true true byte) given (controlOf (now (port .entry))))

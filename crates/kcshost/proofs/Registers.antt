@@ -154,6 +154,7 @@ read-as-said p =
       clear = obf-seen (dataRead p);
       state = state-seen (dataRead p) ∙ sym (state-seen p);
       phase = refl;
+      command = refl;
       fault = refl;
       length = refl;
       next = refl;

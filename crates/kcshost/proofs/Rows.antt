@@ -3,12 +3,12 @@ use mathlib.Core.Path.{_≡_, refl, sym, ap, subst, _∙_}
 use mathlib.Core.Bool.{Bool, true, false, cond, not}
 use mathlib.Core.Logic.{⊎-elim}
 use mathlib.Core.List.{List, [], _∷_}
-use Prim.Native.Nat.{ℕ, _≤_}
+use Prim.Native.Nat.{_<_, ℕ, _≤_}
 use native.Mathlib.Omega.{arith}
 use lib.Dec.{ltb}
 use lib.ListN.{length, getD}
 use borrow.Author.Tests.{lt-ltb, le-ltb, le-leb, eq-eqb, ne-eqb}
-use Rattle.kcs.specs.Port.{Control, Port, Phase, idle, writing, ending, awaiting, reading, aborting, failed, phaseOf}
+use Rattle.kcs.specs.Port.{Control, Port, Phase, idle, writing, ending, awaiting, reading, aborting, failed, phaseOf, stateBits}
 use Rattle.kcs.specs.Effects.{Effect, Closes, Keeps, Completes, Tells, Continues, Finishes, WrongCode, TooLong, onEnd, onCommand, onData, hasRoom, hasNext, left, withCommand}
 use Rattle.kcs.specs.Accesses.{withControl, commandWritten, dataWritten, answers}
 use Rattle.kcs.proofs.Phases.{no-end}
@@ -121,10 +121,14 @@ taken-as-said p = (commands-taken p, (λ byte. data-taken byte p), answer-taken 
 
 -- ---- numbers that no access leaves
 
+above-five : (n : ℕ) → 5 < n → phaseOf n ≡ failed
+above-five n above =
+    rw
+    (ne-eqb n 0 (λ e. omega (arith, above, e)), ne-eqb n 1 (λ e. omega (arith, above, e)), ne-eqb n 2 (λ e. omega (arith, above, e)), ne-eqb n 3 (λ e. omega (arith, above, e)), ne-eqb n 4 (λ e. omega (arith, above, e)), ne-eqb n 5 (λ e. omega (arith, above, e)))
+
 pub other-numbers : OtherNumbers
 other-numbers p = (
-  λ above.
-      rw (ne-eqb (p .control .phase) 0 (λ e. omega (arith, above, e)), ne-eqb (p .control .phase) 1 (λ e. omega (arith, above, e)), ne-eqb (p .control .phase) 2 (λ e. omega (arith, above, e)), ne-eqb (p .control .phase) 3 (λ e. omega (arith, above, e)), ne-eqb (p .control .phase) 4 (λ e. omega (arith, above, e)), ne-eqb (p .control .phase) 5 (λ e. omega (arith, above, e))),
+  λ above. (above-five (p .control .phase) above, state-seen p ∙ ap stateBits (above-five (p .control .phase) above)),
   λ set. command-seen p ∙ ap (λ (t : Bool). cond (not t) 1 0) (ne-eqb (p .control .command) 0 set),
   λ set. obf-seen p ∙ ap not (ne-eqb (p .control .full) 0 set),
 )

@@ -130,7 +130,7 @@ readsOf (readData ∷ rest) = readsOf rest
 readsOf (writeCommand code ∷ rest) = readsOf rest
 readsOf (writeData byte ∷ rest) = suc (readsOf rest)
 
--- one READ more, after as many as the list has, shows the byte of that place, and after the last byte leads to idle, with 00
+-- after k READs one more shows byte k + 1, from 0, and after the last byte leads to idle, with 00
 abbrev pub ShownInOrder : Type 0
 ShownInOrder =
     (response : List ℕ) (accesses : List Access) (p : Port) → phaseOf (p .control .phase) ≡ awaiting → length response ≤ 64 → onlyReads accesses ≡ true

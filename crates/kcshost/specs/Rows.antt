@@ -76,11 +76,12 @@ pub record AnswerTaken (p : Port) : Type 0 where
 abbrev pub TakenAsSaid : Type 0
 TakenAsSaid = (p : Port) → CommandsTaken p × ((byte : ℕ) → DataTaken byte p) × (phaseOf (p .control .phase) ≡ awaiting → AnswerTaken p)
 
--- a read of Data_Out clears OBF, and leaves all else but the byte itself
+-- a read of Data_Out clears OBF, and leaves all else but Data_Out itself
 pub record ReadClears (p : Port) : Type 0 where
   pub clear : obfSeen (statusRead (dataRead p)) ≡ false
   pub state : stateSeen (statusRead (dataRead p)) ≡ stateSeen (statusRead p)
   pub phase : dataRead p .control .phase ≡ p .control .phase
+  pub command : dataRead p .control .command ≡ p .control .command
   pub fault : dataRead p .control .fault ≡ p .control .fault
   pub length : dataRead p .control .length ≡ p .control .length
   pub next : dataRead p .control .next ≡ p .control .next
@@ -91,13 +92,13 @@ pub record ReadClears (p : Port) : Type 0 where
 abbrev pub ReadAsSaid : Type 0
 ReadAsSaid = (p : Port) → ReadClears p
 
--- ---- numbers that no access leaves (decided)
+-- ---- what the numbers of a record stand for, also those that no access leaves (decided)
 
--- a phase above 5 is the error phase, and any number but 0 is a bit that is set
+-- a phase above 5 is the error phase, and shows ERROR_STATE; any number but 0 is a bit that is set
 abbrev pub OtherNumbers : Type 0
 OtherNumbers =
     (p : Port)
-    → (5 < p .control .phase → phaseOf (p .control .phase) ≡ failed)
+    → (5 < p .control .phase → (phaseOf (p .control .phase) ≡ failed) × (stateSeen (statusRead p) ≡ 3))
     × ((p .control .command ≡ 0 → ⊥) → statusRead p / 8 % 2 ≡ 1)
     × ((p .control .full ≡ 0 → ⊥) → obfSeen (statusRead p) ≡ true)
 

@@ -28,8 +28,8 @@ slice-write-port c = search needs
 read-on-requires : tie.Need-read-on-requires
 read-on-requires c κs = search needs
 
-abort-requires : tie.Need-abort-requires
-abort-requires c κs = search needs
+tell-requires : tie.Need-tell-requires
+tell-requires c κs = search needs
 
 keep-requires : tie.Need-keep-requires
 keep-requires c κs = search needs
@@ -59,7 +59,7 @@ returns-2 c =
     )
 
 same-length-2 : tie.Need-same-length-2
-same-length-2 c = rw (c .before .before .abort .kept .0) (simp length-set refl)
+same-length-2 c = rw (c .before .before .tell .kept .0) (simp length-set refl)
 
 returns-3 : tie.Need-returns-3
 returns-3 c =
@@ -74,7 +74,7 @@ returns-3 c =
     let step = aborting-step (eqb (a .byte) 0x00) (nextByte p) (a .byte) p in (
       λ _. data-left (λ (q : Port). onData aborting true true (a .byte)) (a .byte) _ xs _ long
           (ap (λ (n : ℕ). onData (phaseOf n) (hasRoom (controlOf xs)) (hasNext (controlOf xs)) (a .byte)) phase)
-          (called .abort .ensures (nextByte p) ∙ ap bytesOf (step .0))
+          (called .tell .ensures (nextByte p) ∙ ap bytesOf (step .0))
           (step .1),
       λ no. absurd (no long),
     )
@@ -127,7 +127,7 @@ write-data-in-place-spec =
     slice-read-phase
     slice-write-port
     read-on-requires
-    abort-requires
+    tell-requires
     keep-requires
     refuse-requires
     same-length

@@ -1,4 +1,4 @@
--- `kcs::rows::abort` meets its contract.
+-- `kcs::rows::tell` meets its contract.
 use mathlib.Core.Path.{refl, _∙_}
 use mathlib.Core.List.{List}
 use Prim.Native.Nat.{ℕ}
@@ -7,8 +7,8 @@ use borrow.Author.Tests.{eq-eqb, ne-eqb}
 use Rattle.kcs.specs.Effects.{shown, withPlace}
 use Rattle.kcs.proofs.Places.{after}
 use borrow.Author.Needs.{needs}
-use Rattle.kcs.proofs.rows.abort.Statement.{statement}
-use Rattle.kcs.proofs.rows.abort.Tie as tie
+use Rattle.kcs.proofs.rows.tell.Statement.{statement}
+use Rattle.kcs.proofs.rows.tell.Tie as tie
 
 slice-read-fault : tie.Need-slice-read-fault
 slice-read-fault c = search needs
@@ -45,8 +45,8 @@ returns-2 c =
     let told = called .show .ensures ∙ after (λ k. shown 4 (getD xs 4 0) k) (λ (xs : List ℕ). set xs 7 0) (λ k. withPlace (k .next) 0 k) (λ k t. refl) xs (start .pre) in
     λ given. rw (eq-eqb (a .byte) 0 (branch .if1 .left)) told
 
-pub abort-spec : {M : Type 1} → statement M
-abort-spec =
+pub tell-spec : {M : Type 1} → statement M
+tell-spec =
     tie.close
     (tie.spec
     slice-read-fault
