@@ -7,8 +7,8 @@ use lib.ListN.{length, getD, set}
 use Rattle.buffers.specs.Ranges.{replace}
 use Rattle.kcs.specs.Port.{Port, phaseOf}
 use Rattle.kcs.specs.Effects.{Effect, onCommand, dataEffect, left, withCommand, toldLength}
-use Rattle.kcs.specs.Accesses.{withControl, nextByte, commandWritten, dataWritten, lengthTold}
-use Rattle.kcs.specs.Bytes.{controlOf, portOf, bytesOf, effected}
+use Rattle.kcs.specs.Accesses.{effected, withControl, nextByte, commandWritten, dataWritten, lengthTold}
+use Rattle.kcs.specs.Bytes.{controlOf, portOf, bytesOf}
 use Rattle.kcs.proofs.Places.{changed}
 
 -- the port with another C/D#

@@ -8,8 +8,8 @@ use borrow.Author.Tests.{eqb-true}
 use Rattle.kcs.specs.Port.{Port, Phase, idle, writing, ending, awaiting, reading, aborting, failed, phaseOf}
 use Rattle.units.proofs.Cases.{chosen}
 use Rattle.kcs.specs.Effects.{Keeps, Completes, TooLong, Tells, Continues, Finishes, WrongCode, onEnd, onData, left, toldLength}
-use Rattle.kcs.specs.Accesses.{withControl}
-use Rattle.kcs.specs.Bytes.{effected}
+use Rattle.kcs.specs.Accesses.{effected, withControl}
+use Rattle.kcs.specs.Bytes.{}
 
 -- what holds of every phase, of each one where it is the number's, holds of the number's phase
 pub each-phase

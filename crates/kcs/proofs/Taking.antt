@@ -7,7 +7,7 @@ use lib.Dec.{ltb, leb, eqb}
 use borrow.Author.Tests.{ltb-true, leb-true}
 use Rattle.units.proofs.Cases.{both}
 use Rattle.kcs.specs.Port.{Control, Phase, idle, writing, ending, awaiting, reading, aborting, failed, stateBits}
-use Rattle.kcs.specs.Effects.{Keeps, Completes, TooLong, Tells, Continues, Finishes, WrongCode, onData, hasNext, isKept, dataStep}
+use Rattle.kcs.specs.Effects.{Keeps, Completes, TooLong, Tells, Continues, Finishes, WrongCode, onData, hasNext, dataEffect, isKept}
 use Rattle.kcs.specs.Accesses.{isTaken}
 use Rattle.kcs.proofs.Phases.{each-phase}
 
@@ -36,8 +36,8 @@ none-aborted : (asked : Bool) → isKept (cond asked Tells WrongCode) ≡ true �
 none-aborted true e = false≢true e
 none-aborted false e = false≢true e
 
-pub kept-inside : (byte given : ℕ) (c : Control) → dataStep byte given c .kept ≡ true → c .length < 64
-kept-inside byte given c =
+pub kept-inside : (byte : ℕ) (c : Control) → isKept (dataEffect byte c) ≡ true → c .length < 64
+kept-inside byte c =
     each-phase
     (λ p. isKept (onData p (ltb (c .length) 64) (hasNext c) byte) ≡ true → c .length < 64)
     (c .phase)

@@ -6,7 +6,7 @@ use lib.Dec.{eqb, leb}
 use lib.ListN.{length, getD, take}
 use Rattle.buffers.specs.Ranges.{replace}
 use Rattle.kcs.specs.Port.{Control, Port, idle, awaiting, reading, phaseOf, numberOf, isSet, statusOf}
-use Rattle.kcs.specs.Effects.{onCommand, hasNext, left, dataStep, showing, withCommand, withFault, withPlace}
+use Rattle.kcs.specs.Effects.{Effect, onCommand, hasNext, dataEffect, left, isKept, toldLength, showing, withCommand, withFault, withPlace}
 
 -- the port with other controls
 abbrev pub withControl : Control → Port → Port
@@ -46,19 +46,22 @@ commandWritten code p = withControl (afterCommand code (p .control)) p
 abbrev pub nextByte : Port → ℕ
 nextByte p = cond (hasNext (p .control)) (getD (p .response) (p .control .next) 0) 0x00
 
--- a data byte, to Data_In; one that is kept stands behind those before it
-abbrev pub dataWritten : ℕ → Port → Port
-dataWritten byte p =
-    let step = dataStep byte (nextByte p) (p .control) in
+-- what an effect of a data byte leaves: a byte that is kept stands behind those before it
+abbrev pub effected : Effect → (given byte : ℕ) → Port → Port
+effected effect given byte p =
     record {
-      control = step .control;
-      request = cond (step .kept) (replace (p .control .length) (byte ∷ []) (p .request)) (p .request);
+      control = left effect given (p .control);
+      request = cond (isKept effect) (replace (p .control .length) (byte ∷ []) (p .request)) (p .request);
       response = p .response;
     }
 
+-- a data byte, to Data_In: C/D# is 0, also where it is refused
+abbrev pub dataWritten : ℕ → Port → Port
+dataWritten byte p = effected (dataEffect byte (p .control)) (nextByte p) byte (withControl (withCommand 0 (p .control)) p)
+
 -- the caller is told the length of the message that this write completes, else 0
 abbrev pub lengthTold : ℕ → Port → ℕ
-lengthTold byte p = dataStep byte (nextByte p) (p .control) .length
+lengthTold byte p = toldLength (dataEffect byte (p .control)) (p .control)
 
 -- the message: so many bytes from the front of the request
 abbrev pub message : ℕ → Port → List ℕ

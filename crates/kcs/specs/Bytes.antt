@@ -1,11 +1,9 @@
 -- A KCS port as its 136 bytes: eight controls, then 64 bytes of request and 64 of response (include/kcs.h).
 use Prim.Native.Nat.{ℕ}
-use mathlib.Core.Bool.{cond}
 use mathlib.Core.List.{List, [], _∷_, _++_}
 use lib.ListN.{getD}
-use Rattle.buffers.specs.Ranges.{range, replace}
+use Rattle.buffers.specs.Ranges.{range}
 use Rattle.kcs.specs.Port.{Control, Port}
-use Rattle.kcs.specs.Effects.{Effect, left, isKept}
 
 -- the controls that the first eight bytes stand for
 abbrev pub controlOf : List ℕ → Control
@@ -32,12 +30,3 @@ controlBytes c = c .phase ∷ c .command ∷ c .full ∷ c .output ∷ c .fault 
 -- the bytes of a port
 abbrev pub bytesOf : Port → List ℕ
 bytesOf p = controlBytes (p .control) ++ (p .request ++ p .response)
-
--- what an effect of a data byte leaves of a port: what it keeps stands behind the bytes before it. For a private function, `keep`
-abbrev pub effected : Effect → (given byte : ℕ) → Port → Port
-effected effect given byte p =
-    record {
-      control = left effect given (p .control);
-      request = cond (isKept effect) (replace (p .control .length) (byte ∷ []) (p .request)) (p .request);
-      response = p .response;
-    }

@@ -131,17 +131,3 @@ isLast TooLong = false
 -- the length of the message that a write completes, and 0 with every other write
 abbrev pub toldLength : Effect → Control → ℕ
 toldLength effect c = cond (isLast effect) (c .length + 1) 0
-
--- what a data byte leaves of the controls, whether it is kept in the request, and the length of the message that is complete with it, or 0
-pub record DataStep : Type 0 where
-  pub control : Control
-  pub kept : Bool
-  pub length : ℕ
-
--- what an effect of a data byte leaves of the controls, whether the byte is kept, and the length that is told
-abbrev pub stepOf : Effect → (given : ℕ) → Control → DataStep
-stepOf effect given c = record { control = left effect given c; kept = isKept effect; length = toldLength effect c }
-
--- a write to Data_In: C/D#, which "specifies whether the last write was to the Command register or the Data_In register", is 0, also where it is refused
-abbrev pub dataStep : (byte given : ℕ) → Control → DataStep
-dataStep byte given c = stepOf (dataEffect byte c) given (withCommand 0 c)

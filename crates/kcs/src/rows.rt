@@ -8,8 +8,8 @@ ghost use lib.ListN.{length};
 ghost use Rattle.buffers.specs.Ranges.{replace};
 ghost use Rattle.kcs.specs.Port.{reading, aborting, failed, stateBits, phaseOf, isSet};
 ghost use Rattle.kcs.specs.Effects.{Keeps, Completes, Finishes, TooLong, hasRoom, hasNext, onData, left, shown, showing, withFault, withPlace, toldLength};
-ghost use Rattle.kcs.specs.Accesses.{withControl, nextByte};
-ghost use Rattle.kcs.specs.Bytes.{controlOf, portOf, bytesOf, effected};
+ghost use Rattle.kcs.specs.Accesses.{effected, withControl, nextByte};
+ghost use Rattle.kcs.specs.Bytes.{controlOf, portOf, bytesOf};
 
 // How many bytes a port has.
 pub(crate) const SIZE: usize = 136;

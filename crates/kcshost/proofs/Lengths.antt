@@ -7,8 +7,8 @@ use lib.ListN.{length}
 use Rattle.units.proofs.Cases.{chosen}
 use Rattle.buffers.proofs.Replace.{replace-length}
 use Rattle.kcs.specs.Port.{Port}
-use Rattle.kcs.specs.Effects.{dataStep}
-use Rattle.kcs.specs.Accesses.{nextByte, answers}
+use Rattle.kcs.specs.Effects.{dataEffect, isKept}
+use Rattle.kcs.specs.Accesses.{answers}
 use Rattle.kcs.proofs.Taking.{kept-inside, taken-short}
 use Rattle.kcshost.specs.Runs.{readStatus, readData, writeCommand, writeData, Step, access, answer, stepped}
 use Rattle.kcshost.specs.Rows.{Long, StaysLong}
@@ -20,10 +20,10 @@ step-long (access (writeCommand code)) p l = l
 step-long (access (writeData byte)) p l = (
   chosen
       (λ (xs : List ℕ). length xs ≡ 64)
-      (dataStep byte (nextByte p) (p .control) .kept)
+      (isKept (dataEffect byte (p .control)))
       _
       _
-      (λ kept. replace-length (p .control .length) (byte ∷ []) (p .request) (omega (arith, l .0, kept-inside byte (nextByte p) (p .control) kept)) ∙ l .0)
+      (λ kept. replace-length (p .control .length) (byte ∷ []) (p .request) (omega (arith, l .0, kept-inside byte (p .control) kept)) ∙ l .0)
       (λ _. l .0),
   l .1,
 )

@@ -108,9 +108,6 @@ module _ (p : Port) (byte : ℕ) where
   abbrev handed-by : Effect → List (List ℕ)
   handed-by e = cond (eqb (toldLength e d) 0) [] (message (toldLength e d) (by e) ∷ [])
 
-  abbrev Taken : Request → Type 0
-  Taken r = (handed (writeData byte) p ≡ completed byte r) × Agrees (added byte r) (dataWritten byte p)
-
   -- outside a write phase: of the four effects that there are none is the last, and none opens one
   abbrev Fine : Effect → Type 0
   Fine e = (handed-by e ≡ []) × Apart (by e)

@@ -14,7 +14,7 @@ use Rattle.kcs.proofs.Phases.{each-phase}
 use Rattle.kcshost.specs.Runs.{Access, readData, accessedAll, outOfAll}
 use Rattle.kcshost.specs.Host.{stateSeen, obfSeen, ends, Transfer, begin, writeTransfer, readTransfer}
 use Rattle.kcshost.specs.Transfers.{Read, PublishedRead, PublishedExchange}
-use Rattle.kcshost.proofs.Looks.{counted-leaves, counted-reads}
+use Rattle.kcshost.proofs.Looks.{made-leaves, made-reads}
 use Rattle.kcshost.proofs.Boxes.{state-seen, obf-seen}
 use Rattle.kcshost.proofs.Writing.{published-write}
 use Rattle.kcshost.proofs.Receiving.{giving, receiving, Left, read-bytes, read-leaves, read-gets, concluded}
@@ -77,8 +77,8 @@ module _
           got = ap (λ (u : Transfer). u .got) done;
           state = ap (λ (r : Port). stateSeen (statusRead r)) port ∙ state-seen (accessedAll made q) ∙ rests .0;
           clear = ap (λ (r : Port). obfSeen (statusRead r)) port ∙ obf-seen (accessedAll made q) ∙ rests .1;
-          bytes = λ accesses makes. sym (counted-reads accesses q) ∙ ap (λ (l : List Access). outOfAll l q) (makes ∙ all) ∙ gets;
-          leaves = λ accesses makes. sym (counted-leaves accesses q) ∙ ap (λ (l : List Access). accessedAll l q) (makes ∙ all) ∙ sym port;
+          bytes = λ accesses makes. made-reads accesses made q (response ++ (0x00 ∷ [])) (makes ∙ all) gets;
+          leaves = λ accesses makes. made-leaves accesses made q (t .port) (makes ∙ all) (sym port);
         }
 
 module _ (p : Port) where

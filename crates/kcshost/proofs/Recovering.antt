@@ -4,12 +4,12 @@ use mathlib.Core.List.{List, [], _∷_}
 use Prim.Native.Nat.{ℕ}
 use native.Mathlib.Omega.{arith}
 use Rattle.kcs.specs.Port.{Port, fresh}
-use Rattle.kcs.specs.Accesses.{statusRead, dataRead}
+use Rattle.kcs.specs.Accesses.{statusRead, dataRead, dataWritten}
 use Rattle.kcshost.specs.Runs.{Access, readData, writeCommand, writeData, accessedAll, outOfAll, steppedAll}
 use Rattle.kcshost.specs.Host.{ends, Transfer, begin, leaves, does, put, waitIbf, waitObf, clearObf, expect, receive, conclude, receiveStatus, requestStatus, recovery}
 use Rattle.kcshost.specs.Transfers.{Recovered, PublishedRecovery, RecoveryNamed}
 use Rattle.kcshost.proofs.Boxes.{no-wait, as-expected, cleared, no-longer-waits}
-use Rattle.kcshost.proofs.Looks.{counted-leaves, counted-reads}
+use Rattle.kcshost.proofs.Looks.{made-leaves, made-reads}
 use Rattle.kcshost.proofs.Naming.{status-named}
 use Rattle.kcshost.proofs.Sending.{at}
 use Rattle.kcshost.proofs.Receiving.{giving, finishes}
@@ -31,15 +31,14 @@ module _ (p : Port) where
   abbrev six : List Access
   six = writeCommand 0x60 ∷ readData ∷ writeData 0x00 ∷ readData ∷ writeData 0x68 ∷ readData ∷ []
 
+  finished : dataWritten 0x68 (dataRead told) ≡ rested
+  finished = finishes (p .control .length) (p .request) (p .response) 0 (p .control .fault) (p .control .fault) (p .control .next) 0 (omega arith)
+
   left : accessedAll six p ≡ dataRead rested
-  left =
-      ap dataRead (finishes (p .control .length) (p .request) (p .response) 0 (p .control .fault) (p .control .fault) (p .control .next) 0 (omega arith))
+  left = ap dataRead finished
 
   gets : outOfAll six p ≡ 0x00 ∷ p .control .fault ∷ 0x00 ∷ []
-  gets =
-      ap
-      (λ (q : Port). 0x00 ∷ p .control .fault ∷ outOfAll (readData ∷ []) q)
-      (finishes (p .control .length) (p .request) (p .response) 0 (p .control .fault) (p .control .fault) (p .control .next) 0 (omega arith))
+  gets = ap (λ (q : Port). 0x00 ∷ p .control .fault ∷ outOfAll (readData ∷ []) q) finished
 
   charted : recovery (begin p) ≡ record { port = accessedAll six p; made = six; got = p .control .fault ∷ []; met = ends }
   charted =
@@ -48,7 +47,6 @@ module _ (p : Port) where
       let five = writeCommand 0x60 ∷ readData ∷ writeData 0x00 ∷ readData ∷ writeData 0x68 ∷ [] in
       let three = at rested five (p .control .fault ∷ []) in
       let read = receive (put (writeData 0x68) (waitIbf conclude)) in
-      let end = finishes (p .control .length) (p .request) (p .response) 0 (p .control .fault) (p .control .fault) (p .control .next) 0 (omega arith) in
       no-wait (does (writeCommand 0x60) requestStatus) (begin p)
       ∙ no-wait (expect 2 (clearObf (put (writeData 0x00) receiveStatus))) one
       ∙ as-expected (clearObf (put (writeData 0x00) receiveStatus)) one 2 refl
@@ -58,7 +56,7 @@ module _ (p : Port) where
       ∙ as-expected (waitObf read) two 1 refl
       ∙ no-longer-waits read two refl
       ∙ no-wait (does (writeData 0x68) (waitIbf conclude)) (at (dataRead told) (writeCommand 0x60 ∷ readData ∷ writeData 0x00 ∷ readData ∷ []) (p .control .fault ∷ []))
-      ∙ ap (λ (q : Port). waitIbf conclude (at q five (p .control .fault ∷ []))) end
+      ∙ ap (λ (q : Port). waitIbf conclude (at q five (p .control .fault ∷ []))) finished
       ∙ no-wait conclude three
       ∙ as-expected (waitObf (does readData (leaves ends))) three 0 refl
       ∙ no-longer-waits (does readData (leaves ends)) three refl
@@ -74,8 +72,8 @@ module _ (p : Port) where
         six = rw made (omega arith);
         status = ap statusRead (port ∙ left);
         got = ap (λ (u : Transfer). u .got) charted;
-        bytes = λ accesses makes. sym (counted-reads accesses p) ∙ ap (λ (l : List Access). outOfAll l p) (makes ∙ made) ∙ gets;
-        leaves = λ accesses makes. sym (counted-leaves accesses p) ∙ ap (λ (l : List Access). accessedAll l p) (makes ∙ made) ∙ sym port;
+        bytes = λ accesses makes. made-reads accesses six p (0x00 ∷ p .control .fault ∷ 0x00 ∷ []) (makes ∙ made) gets;
+        leaves = λ accesses makes. made-leaves accesses six p (t .port) (makes ∙ made) (sym port);
       }
 
 pub published-recovery : PublishedRecovery

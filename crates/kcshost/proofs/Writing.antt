@@ -11,18 +11,10 @@ use Rattle.kcs.specs.Port.{Port, phaseOf, isSet}
 use Rattle.kcs.specs.Accesses.{statusRead, dataRead}
 use Rattle.kcshost.specs.Runs.{Access, readData, writeCommand, accessedAll, countedAll}
 use Rattle.kcshost.specs.Host.{Transfer, begin, clearObf, does, put, writeBytes, writeTransfer}
-use Rattle.kcshost.specs.Transfers.{Makes, Written, PublishedWrite}
+use Rattle.kcshost.specs.Transfers.{Written, PublishedWrite}
 use Rattle.kcshost.proofs.Boxes.{no-wait, cleared, is-clear}
-use Rattle.kcshost.proofs.Looks.{counted-leaves, counted-hands, counted-append}
+use Rattle.kcshost.proofs.Looks.{counted-hands, counted-append, made-leaves}
 use Rattle.kcshost.proofs.Sending.{sending, after, at, port, Hands, hands-later, write-bytes, sent-all, sending-hands}
-
--- what a host that has made its accesses leaves, with status reads anywhere between
-pub looked-leaves
-    : (accesses made : List Access) (t : Transfer) (p : Port) → t ≡ after made (begin p) → Makes accesses t → accessedAll accesses p ≡ t .port
-looked-leaves accesses made t p done makes =
-    sym (counted-leaves accesses p)
-    ∙ ap (λ (all : List Access). accessedAll all p) (makes ∙ ap (λ (u : Transfer). u .made) done)
-    ∙ sym (ap (λ (u : Transfer). u .port) done)
 
 module _ (byte : ℕ) (bytes : List ℕ) (p : Port) (fits : length (byte ∷ bytes) ≤ 64) where
   -- OBF is cleared first where it is set
@@ -85,7 +77,11 @@ module _ (byte : ℕ) (bytes : List ℕ) (p : Port) (fits : length (byte ∷ byt
             sym (counted-hands front p)
             ∙ hands (isSet (p .control .full)) (countedAll front) (countedAll back)
             (sym (counted-append front back) ∙ ap countedAll cut ∙ makes ∙ ap (λ (t : Transfer). t .made) made);
-        leaves = λ accesses makes. looked-leaves accesses (opening (isSet (p .control .full))) (writeTransfer (byte ∷ bytes) (begin p)) p made makes;
+        leaves =
+            λ accesses makes.
+            made-leaves accesses (opening (isSet (p .control .full))) p (writeTransfer (byte ∷ bytes) (begin p) .port)
+            (makes ∙ ap (λ (t : Transfer). t .made) made)
+            (sym (ap (λ (t : Transfer). t .port) made));
       }
 
 pub published-write : PublishedWrite
