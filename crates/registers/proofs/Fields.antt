@@ -9,7 +9,7 @@ abbrev pub elements : ℕ → ℕ → List ℕ → List ℕ
 elements zero i xs = []
 elements (suc n) i xs = getD xs i 0 ∷ elements n (suc i) xs
 
-elements-tail : (n i x : ℕ) (xs : List ℕ) → elements n (suc i) (x ∷ xs) ≡ elements n i xs
+pub elements-tail : (n i x : ℕ) (xs : List ℕ) → elements n (suc i) (x ∷ xs) ≡ elements n i xs
 elements-tail zero i x xs = refl
 elements-tail (suc n) i x xs = ap (λ (t : List ℕ). getD xs i 0 ∷ t) (elements-tail n (suc i) x xs)
 

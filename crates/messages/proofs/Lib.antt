@@ -1,0 +1,4 @@
+pub mod Cells
+pub mod Laying
+pub mod Passing
+pub mod Rows
