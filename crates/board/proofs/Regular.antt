@@ -27,7 +27,7 @@ window-known Read = refl
 window-known Write = refl
 
 -- the record of any session is regular
-of-session : (spare : ℕ) (s : Session) → isRegular (recordOf spare s) ≡ true
+pub of-session : (spare : ℕ) (s : Session) → isRegular (recordOf spare s) ≡ true
 of-session spare s = rw (yes-no (isNumbered (s .previous)), yes-no (s .suspended), window-known (s .window))
 
 -- and so is what a suspend or resume answers, where the number for the window is a window's

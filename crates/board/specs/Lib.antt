@@ -1,2 +1,3 @@
 pub mod Calls
+pub mod Messages
 pub mod Record

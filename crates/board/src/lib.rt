@@ -5,6 +5,7 @@
 mod access;
 mod convert;
 mod lists;
+mod message;
 mod pending;
 mod serving;
 
@@ -14,6 +15,7 @@ pub use access::hiomap_step;
 pub use access::hiomap_suspend;
 use convert::record_of;
 pub use lists::hiomap_mark_list;
+pub use message::hiomap_message;
 pub use pending::hiomap_pending;
 pub use serving::hiomap_command;
 use session::new_session;
@@ -61,6 +63,14 @@ pub struct ListReply {
     pub code: u8,
     pub named: bool,
     pub place: u8,
+}
+
+// What a message gives back: the response's bytes, zero behind them, how many they are, and the number of chip actions.
+#[repr(C)]
+pub struct MessageReply {
+    pub response: [u8; 16],
+    pub length: u32,
+    pub actions: u32,
 }
 
 // How much is pending: whether a kept number disagrees with the marks, and else the number of marked blocks, and

@@ -33,7 +33,7 @@ pub laid-served : (version : ℕ) (message registers vs : List ℕ) → statusOf
     → _≡_ {A = Response}
     (record {
       bytes = (madeOdd (networkFunctionOf message) * 4 + lunOf message) ∷ ipmiCommandOf message ∷ 0 ∷ commandOf registers ∷ sequenceOf registers
-        ∷ elements 11 0 vs;
+          ∷ elements 11 0 vs;
       length = 5 + told (rowOf (commandOf registers) version);
     })
     (laid (responseOf version message registers))
@@ -42,7 +42,7 @@ laid-served version message registers vs s l e =
     let values = valuesOf (rowOf (commandOf registers) version) registers in
     let behind = cells vs values e in
     let long : 5 + told (rowOf (commandOf registers) version) ≡ suc (suc (suc (suc (suc (length values))))) =
-      omega (arith, packed-long (commandOf registers) version registers l) in
+    omega (arith, packed-long (commandOf registers) version registers l) in
     rw (eq-eqb (statusOf registers) 1 s)
     (λ i. record {
       bytes = (madeOdd (networkFunctionOf message) * 4 + lunOf message) ∷ ipmiCommandOf message ∷ 0 ∷ commandOf registers ∷ sequenceOf registers ∷ behind i;

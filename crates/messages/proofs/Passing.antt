@@ -44,8 +44,8 @@ each-taken P pair version message short foreign malformed command =
     chosen P (ltb (length message) 4 || wrongLength (rowOf (hiomapCommandOf message) version) (length message - 4)) Malformed Command
     (malformed some (not-false (isOwn pair message) ours))
     (λ e.
-      let n = neither (ltb (length message) 4) (wrongLength (rowOf (hiomapCommandOf message) version) (length message - 4)) e in
-      command record { long = ltb-false (length message) 4 (n .0); own = not-false (isOwn pair message) ours; right = n .1 })
+    let n = neither (ltb (length message) 4) (wrongLength (rowOf (hiomapCommandOf message) version) (length message - 4)) e in
+    command record { long = ltb-false (length message) 4 (n .0); own = not-false (isOwn pair message) ours; right = n .1 })
 
 abbrev isCommand : Taken → Bool
 isCommand Short = false
@@ -70,8 +70,8 @@ opened-taken pair version message t e c =
     let right = taken-passes pair version message taken .right in
     let n = length-drop 4 message in
     let values =
-      unpacked-as (hiomapCommandOf message) version (drop 4 message)
-      (subst (λ (k : ℕ). wrongLength (rowOf (hiomapCommandOf message) version) k ≡ false) (sym n) right) in
+    unpacked-as (hiomapCommandOf message) version (drop 4 message)
+    (subst (λ (k : ℕ). wrongLength (rowOf (hiomapCommandOf message) version) k ≡ false) (sym n) right) in
     ap (λ (t : List ℕ). record { taken = Command; registers = hiomapCommandOf message ∷ numberOf message ∷ (t ++ (0 ∷ 0 ∷ 0 ∷ [])) }) (sym values)
     ∙ ap (λ (t : Taken). record { taken = t; registers = registersFor t version message }) (sym taken)
 

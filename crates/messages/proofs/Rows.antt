@@ -24,9 +24,9 @@ each-in P [] e n code version = n code version
 each-in P (r ∷ rows) e n code version =
     chosen (P code version) (eqb version (r .version) && eqb code (r .code)) (some r) (rowIn rows code version)
     (λ t.
-      let h = both (eqb version (r .version)) (eqb code (r .code)) t in
-      subst (λ (k : ℕ). P k version (some r)) (sym (eqb-true code (r .code) (h .1)))
-      (subst (λ (k : ℕ). P (r .code) k (some r)) (sym (eqb-true version (r .version) (h .0))) (e .0)))
+    let h = both (eqb version (r .version)) (eqb code (r .code)) t in
+    subst (λ (k : ℕ). P k version (some r)) (sym (eqb-true code (r .code) (h .1)))
+    (subst (λ (k : ℕ). P (r .code) k (some r)) (sym (eqb-true version (r .version) (h .0))) (e .0)))
     (λ _. each-in P rows (e .1) n code version)
 
 pub each-row : (P : ℕ → ℕ → Option Row → Type 0) → Every P table → ((code version : ℕ) → P code version none)
@@ -40,9 +40,67 @@ each-row P e n code version = each-in P table e n code version
 pub known-asked : (code version : ℕ) → eqb (asked (rowOf code version)) 255 ≡ not (isRow (rowOf code version))
 unfolding table
 known-asked =
-    each-row (λ (code : ℕ) (version : ℕ) (o : Option Row). eqb (asked o) 255 ≡ not (isRow o))
-    (refl, (refl, (refl, (refl, (refl, (refl, (refl, (refl, (refl, (refl, (refl, (refl, (refl, (refl, (refl, (refl, (refl, (refl, (refl, (refl,
-    (refl, (refl, tt))))))))))))))))))))))
+    each-row (λ (code : ℕ) (version : ℕ) (o : Option Row). eqb (asked o) 255 ≡ not (isRow o)) (
+      refl,
+      (
+        refl,
+        (
+          refl,
+          (
+            refl,
+            (
+              refl,
+              (
+                refl,
+                (
+                  refl,
+                  (
+                    refl,
+                    (
+                      refl,
+                      (
+                        refl,
+                        (
+                          refl,
+                          (
+                            refl,
+                            (
+                              refl,
+                              (
+                                refl,
+                                (
+                                  refl,
+                                  (
+                                    refl,
+                                    (
+                                      refl,
+                                      (
+                                        refl,
+                                        (
+                                          refl,
+                                          (
+                                            refl,
+                                            (refl, (refl, tt)),
+                                          ),
+                                        ),
+                                      ),
+                                    ),
+                                  ),
+                                ),
+                              ),
+                            ),
+                          ),
+                        ),
+                      ),
+                    ),
+                  ),
+                ),
+              ),
+            ),
+          ),
+        ),
+      ),
+    )
     (λ _ _. refl)
 
 pub wrong-as : (o : Option Row) (count : ℕ) → eqb (asked o) 255 ≡ not (isRow o)
@@ -55,24 +113,119 @@ pub told-nothing : (code version : ℕ) → (code ≡ 2 → ⊥) → (code ≡ 3
 unfolding table
 told-nothing =
     each-row
-    (λ (code : ℕ) (version : ℕ) (o : Option Row). (code ≡ 2 → ⊥) → (code ≡ 3 → ⊥) → (code ≡ 4 → ⊥) → (code ≡ 6 → ⊥) → told o ≡ 0)
-    ((λ n2 n3 n4 n6. refl), ((λ n2 n3 n4 n6. refl), ((λ n2 n3 n4 n6. refl), ((λ n2 n3 n4 n6. absurd (n2 refl)), ((λ n2 n3 n4 n6. absurd (n2 refl)),
-    ((λ n2 n3 n4 n6. absurd (n2 refl)), ((λ n2 n3 n4 n6. absurd (n3 refl)), ((λ n2 n3 n4 n6. absurd (n3 refl)), ((λ n2 n3 n4 n6. absurd (n4 refl)),
-    ((λ n2 n3 n4 n6. absurd (n4 refl)), ((λ n2 n3 n4 n6. refl), ((λ n2 n3 n4 n6. refl), ((λ n2 n3 n4 n6. absurd (n6 refl)),
-    ((λ n2 n3 n4 n6. absurd (n6 refl)), ((λ n2 n3 n4 n6. refl), ((λ n2 n3 n4 n6. refl), ((λ n2 n3 n4 n6. refl), ((λ n2 n3 n4 n6. refl),
-    ((λ n2 n3 n4 n6. refl), ((λ n2 n3 n4 n6. refl), ((λ n2 n3 n4 n6. refl), ((λ n2 n3 n4 n6. refl), tt))))))))))))))))))))))
+    (λ (code : ℕ) (version : ℕ) (o : Option Row). (code ≡ 2 → ⊥) → (code ≡ 3 → ⊥) → (code ≡ 4 → ⊥) → (code ≡ 6 → ⊥) → told o ≡ 0) (
+      (λ n2 n3 n4 n6. refl),
+      (
+        (λ n2 n3 n4 n6. refl),
+        (
+          (λ n2 n3 n4 n6. refl),
+          (
+            (λ n2 n3 n4 n6. absurd (n2 refl)),
+            (
+              (λ n2 n3 n4 n6. absurd (n2 refl)),
+              (
+                (λ n2 n3 n4 n6. absurd (n2 refl)),
+                (
+                  (λ n2 n3 n4 n6. absurd (n3 refl)),
+                  (
+                    (λ n2 n3 n4 n6. absurd (n3 refl)),
+                    (
+                      (λ n2 n3 n4 n6. absurd (n4 refl)),
+                      (
+                        (λ n2 n3 n4 n6. absurd (n4 refl)),
+                        (
+                          (λ n2 n3 n4 n6. refl),
+                          (
+                            (λ n2 n3 n4 n6. refl),
+                            (
+                              (λ n2 n3 n4 n6. absurd (n6 refl)),
+                              (
+                                (λ n2 n3 n4 n6. absurd (n6 refl)),
+                                (
+                                  (λ n2 n3 n4 n6. refl),
+                                  (
+                                    (λ n2 n3 n4 n6. refl),
+                                    (
+                                      (λ n2 n3 n4 n6. refl),
+                                      (
+                                        (λ n2 n3 n4 n6. refl),
+                                        ((λ n2 n3 n4 n6. refl), ((λ n2 n3 n4 n6. refl), ((λ n2 n3 n4 n6. refl), ((λ n2 n3 n4 n6. refl), tt)))),
+                                      ),
+                                    ),
+                                  ),
+                                ),
+                              ),
+                            ),
+                          ),
+                        ),
+                      ),
+                    ),
+                  ),
+                ),
+              ),
+            ),
+          ),
+        ),
+      ),
+    )
     (λ _ _ n2 n3 n4 n6. refl)
 
 -- nor has one at another version than 1 and 2
 pub told-elsewhere : (code version : ℕ) → (version ≡ 1 → ⊥) → (version ≡ 2 → ⊥) → told (rowOf code version) ≡ 0
 unfolding table
 told-elsewhere =
-    each-row (λ (code : ℕ) (version : ℕ) (o : Option Row). (version ≡ 1 → ⊥) → (version ≡ 2 → ⊥) → told o ≡ 0)
-    ((λ n1 n2. refl), ((λ n1 n2. absurd (n1 refl)), ((λ n1 n2. absurd (n2 refl)), ((λ n1 n2. refl), ((λ n1 n2. absurd (n1 refl)),
-    ((λ n1 n2. absurd (n2 refl)), ((λ n1 n2. absurd (n1 refl)), ((λ n1 n2. absurd (n2 refl)), ((λ n1 n2. absurd (n1 refl)),
-    ((λ n1 n2. absurd (n2 refl)), ((λ n1 n2. absurd (n1 refl)), ((λ n1 n2. absurd (n2 refl)), ((λ n1 n2. absurd (n1 refl)),
-    ((λ n1 n2. absurd (n2 refl)), ((λ n1 n2. absurd (n1 refl)), ((λ n1 n2. absurd (n2 refl)), ((λ n1 n2. absurd (n1 refl)),
-    ((λ n1 n2. absurd (n2 refl)), ((λ n1 n2. refl), ((λ n1 n2. absurd (n1 refl)), ((λ n1 n2. absurd (n2 refl)), ((λ n1 n2. absurd (n2 refl)), tt))))))))))))))))))))))
+    each-row (λ (code : ℕ) (version : ℕ) (o : Option Row). (version ≡ 1 → ⊥) → (version ≡ 2 → ⊥) → told o ≡ 0) (
+      (λ n1 n2. refl),
+      (
+        (λ n1 n2. absurd (n1 refl)),
+        (
+          (λ n1 n2. absurd (n2 refl)),
+          (
+            (λ n1 n2. refl),
+            (
+              (λ n1 n2. absurd (n1 refl)),
+              (
+                (λ n1 n2. absurd (n2 refl)),
+                (
+                  (λ n1 n2. absurd (n1 refl)),
+                  (
+                    (λ n1 n2. absurd (n2 refl)),
+                    (
+                      (λ n1 n2. absurd (n1 refl)),
+                      (
+                        (λ n1 n2. absurd (n2 refl)),
+                        (
+                          (λ n1 n2. absurd (n1 refl)),
+                          (
+                            (λ n1 n2. absurd (n2 refl)),
+                            (
+                              (λ n1 n2. absurd (n1 refl)),
+                              (
+                                (λ n1 n2. absurd (n2 refl)),
+                                (
+                                  (λ n1 n2. absurd (n1 refl)),
+                                  (
+                                    (λ n1 n2. absurd (n2 refl)),
+                                    (
+                                      (λ n1 n2. absurd (n1 refl)),
+                                      ((λ n1 n2. absurd (n2 refl)), ((λ n1 n2. refl), ((λ n1 n2. absurd (n1 refl)), ((λ n1 n2. absurd (n2 refl)), ((λ n1 n2. absurd (n2 refl)), tt))))),
+                                    ),
+                                  ),
+                                ),
+                              ),
+                            ),
+                          ),
+                        ),
+                      ),
+                    ),
+                  ),
+                ),
+              ),
+            ),
+          ),
+        ),
+      ),
+    )
     (λ _ _ n1 n2. refl)
 
 -- ---- a request: its parameters' two offsets are the same, so that it is unpacked byte by byte
@@ -103,9 +256,43 @@ pub unpacked-as : (code version : ℕ) (given : List ℕ) → wrongLength (rowOf
 unfolding table
 unpacked-as =
     each-row
-    (λ (code : ℕ) (version : ℕ) (o : Option Row). (given : List ℕ) → wrongLength o (length given) ≡ false → argumentsOf o given ≡ padded given)
-    (unpacks-n, (unpacks-n, (unpacks-n, (unpacks-y, (unpacks-y, (unpacks-y, (unpacks-n, (unpacks-n, (unpacks-q, (unpacks-qq, (unpacks-n, (unpacks-y,
-    (unpacks-q, (unpacks-qq, (unpacks-qu, (unpacks-qq, (unpacks-qu, (unpacks-n, (unpacks-y, (unpacks-y, (unpacks-y, (unpacks-qq, tt))))))))))))))))))))))
+    (λ (code : ℕ) (version : ℕ) (o : Option Row). (given : List ℕ) → wrongLength o (length given) ≡ false → argumentsOf o given ≡ padded given) (
+      unpacks-n,
+      (
+        unpacks-n,
+        (
+          unpacks-n,
+          (
+            unpacks-y,
+            (
+              unpacks-y,
+              (
+                unpacks-y,
+                (
+                  unpacks-n,
+                  (
+                    unpacks-n,
+                    (
+                      unpacks-q,
+                      (
+                        unpacks-qq,
+                        (
+                          unpacks-n,
+                          (
+                            unpacks-y,
+                            (unpacks-q, (unpacks-qq, (unpacks-qu, (unpacks-qq, (unpacks-qu, (unpacks-n, (unpacks-y, (unpacks-y, (unpacks-y, (unpacks-qq, tt)))))))))),
+                          ),
+                        ),
+                      ),
+                    ),
+                  ),
+                ),
+              ),
+            ),
+          ),
+        ),
+      ),
+    )
     (λ _ _ given e. refl)
 
 -- ---- a response
@@ -158,10 +345,52 @@ unfolding table
 packed-as =
     each-row
     (λ (code : ℕ) (version : ℕ) (o : Option Row). (code ≡ 2 → version ≡ 2 → ⊥) → (registers : List ℕ) → length registers ≡ 16
-      → padded (valuesOf o registers) ≡ front (told o) registers)
-    ((λ _. packs-n), ((λ _. packs-n), ((λ _. packs-n), ((λ _. packs-n), ((λ _. packs-info1), ((λ n. absurd (n refl refl)), ((λ _. packs-uu),
-    ((λ _. packs-qq), ((λ _. packs-q), ((λ _. packs-qqq), ((λ _. packs-n), ((λ _. packs-n), ((λ _. packs-q), ((λ _. packs-qqq), ((λ _. packs-n),
-    ((λ _. packs-n), ((λ _. packs-n), ((λ _. packs-n), ((λ _. packs-n), ((λ _. packs-n), ((λ _. packs-n), ((λ _. packs-n), tt))))))))))))))))))))))
+    → padded (valuesOf o registers) ≡ front (told o) registers) (
+      (λ _. packs-n),
+      (
+        (λ _. packs-n),
+        (
+          (λ _. packs-n),
+          (
+            (λ _. packs-n),
+            (
+              (λ _. packs-info1),
+              (
+                (λ n. absurd (n refl refl)),
+                (
+                  (λ _. packs-uu),
+                  (
+                    (λ _. packs-qq),
+                    (
+                      (λ _. packs-q),
+                      (
+                        (λ _. packs-qqq),
+                        (
+                          (λ _. packs-n),
+                          (
+                            (λ _. packs-n),
+                            (
+                              (λ _. packs-q),
+                              (
+                                (λ _. packs-qqq),
+                                (
+                                  (λ _. packs-n),
+                                  ((λ _. packs-n), ((λ _. packs-n), ((λ _. packs-n), ((λ _. packs-n), ((λ _. packs-n), ((λ _. packs-n), ((λ _. packs-n), tt))))))),
+                                ),
+                              ),
+                            ),
+                          ),
+                        ),
+                      ),
+                    ),
+                  ),
+                ),
+              ),
+            ),
+          ),
+        ),
+      ),
+    )
     (λ _ _ _ registers l. refl)
 
 -- and GET_INFO's are those of 000: M 0, 5, 6 and 7
@@ -172,7 +401,7 @@ unfolding rowOf table
 info-packed registers l =
     subst
     (λ (t : List ℕ). padded (packedFrom (y 0 0 ∷ y 5 1 ∷ q 6 2 ∷ []) t)
-      ≡ getD t 2 0 ∷ getD t 7 0 ∷ getD t 8 0 ∷ getD t 9 0 ∷ 0 ∷ 0 ∷ 0 ∷ 0 ∷ 0 ∷ 0 ∷ 0 ∷ [])
+    ≡ getD t 2 0 ∷ getD t 7 0 ∷ getD t 8 0 ∷ getD t 9 0 ∷ 0 ∷ 0 ∷ 0 ∷ 0 ∷ 0 ∷ 0 ∷ 0 ∷ [])
     (elements-of 16 registers l) refl
 
 -- each has as many bytes as its parameters
@@ -205,8 +434,68 @@ pub packed-long : (code version : ℕ) (registers : List ℕ) → length registe
 unfolding table
 packed-long =
     each-row
-    (λ (code : ℕ) (version : ℕ) (o : Option Row). (registers : List ℕ) → length registers ≡ 16 → length (valuesOf o registers) ≡ told o)
-    (measures-n, (measures-n, (measures-n, (measures-n, (measures-info1, (measures-info2, (measures-uu, (measures-qq, (measures-q, (measures-qqq,
-    (measures-n, (measures-n, (measures-q, (measures-qqq, (measures-n, (measures-n, (measures-n, (measures-n, (measures-n, (measures-n, (measures-n,
-    (measures-n, tt))))))))))))))))))))))
+    (λ (code : ℕ) (version : ℕ) (o : Option Row). (registers : List ℕ) → length registers ≡ 16 → length (valuesOf o registers) ≡ told o) (
+      measures-n,
+      (
+        measures-n,
+        (
+          measures-n,
+          (
+            measures-n,
+            (
+              measures-info1,
+              (
+                measures-info2,
+                (
+                  measures-uu,
+                  (
+                    measures-qq,
+                    (
+                      measures-q,
+                      (
+                        measures-qqq,
+                        (
+                          measures-n,
+                          (
+                            measures-n,
+                            (
+                              measures-q,
+                              (
+                                measures-qqq,
+                                (
+                                  measures-n,
+                                  (
+                                    measures-n,
+                                    (
+                                      measures-n,
+                                      (
+                                        measures-n,
+                                        (
+                                          measures-n,
+                                          (
+                                            measures-n,
+                                            (
+                                              measures-n,
+                                              (measures-n, tt),
+                                            ),
+                                          ),
+                                        ),
+                                      ),
+                                    ),
+                                  ),
+                                ),
+                              ),
+                            ),
+                          ),
+                        ),
+                      ),
+                    ),
+                  ),
+                ),
+              ),
+            ),
+          ),
+        ),
+      ),
+    )
     (λ _ _ registers l. refl)

@@ -103,7 +103,7 @@ returns-2 c =
     let head = c .before .before .reply-function .ensures ∙ ap (λ (b : ℕ). madeOdd (b / 4) * 4 + b % 4) first in
     (λ i. record {
       bytes = head i ∷ c .before .byte-at2 .ensures i ∷ 0 ∷ getD (a .t3) 0 0 ∷ getD (a .t3) 1 0
-        ∷ getD vs 0 0 ∷ getD vs 1 0 ∷ getD vs 2 0 ∷ getD vs 3 0 ∷ getD vs 4 0 ∷ getD vs 5 0 ∷ getD vs 6 0 ∷ getD vs 7 0 ∷ getD vs 8 0 ∷ getD vs 9 0 ∷ getD vs 10 0 ∷ [];
+          ∷ getD vs 0 0 ∷ getD vs 1 0 ∷ getD vs 2 0 ∷ getD vs 3 0 ∷ getD vs 4 0 ∷ getD vs 5 0 ∷ getD vs 6 0 ∷ getD vs 7 0 ∷ getD vs 8 0 ∷ getD vs 9 0 ∷ getD vs 10 0 ∷ [];
       length = 5 + c .response-bytes .ensures i;
     })
     ∙ laid-served (a .version) (a .message .now) (a .t3) vs (served .if1 .left) long (valued .values-of .ensures)

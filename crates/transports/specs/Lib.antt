@@ -1,0 +1,4 @@
+pub mod Demand
+pub mod Kcs
+pub mod Runs
+pub mod Same
