@@ -2,7 +2,7 @@
  * The hiomap mediator for C: what crates/board exports. Build the archive with `rt staticlib board`
  * and link target/staticlib/libboard.a (x86-64 Linux).
  *
- * Ownership. The caller owns everything: the record of the session, the registers, the flash image, the
+ * Ownership. The caller owns everything: the record of the session, the registers, a message, the flash image, the
  * window memory and a list of marks. A call borrows what it is given and keeps nothing of it when it returns; there is
  * no hidden state and no allocation, so several records may be in use side by side. Functions that take
  * a record by value leave the caller's alone; a suspend or resume gives the new one back.
@@ -10,13 +10,13 @@
  * What the caller must see to, since nothing here can check it:
  *   - pointers are not null, aligned for their type, and lead to initialised memory of the stated size,
  *     also where a length is 0;
- *   - no two of the things that one call borrows overlap (record, registers, flash, window memory, list), and
+ *   - no two of the things that one call borrows overlap (record, registers, message, flash, window memory, list), and
  *     nobody else writes to them during the call: an interrupt or another thread must wait. The window
  *     memory is written by the host between the calls, and not during one.
- * Every value is taken: any content of the record, the registers and a list and any length gets the
+ * Every value is taken: any content of the record, the registers, a message and a list and any length gets the
  * answer that the rules give it: for a command, a list of marks and a step SYSTEM_ERROR (4) where the record or the
  * sizes are not sound, and for a command and a list also where lpc and the blocks of the window memory together are
- * above 65,536.
+ * above 65,536; a message that holds a command is answered as the command is.
  */
 #ifndef HIOMAP_H
 #define HIOMAP_H
@@ -73,6 +73,31 @@ extern "C" {
 #define HIOMAP_BUSY 6
 #define HIOMAP_WINDOW_ERROR 7
 #define HIOMAP_SEQ_ERROR 8
+
+/*
+ * A message: the network function in the high six bits of its first byte, with the LUN in the low two, the command, then
+ * the hiomap command, its sequence number and its parameters. A response: the network function made odd, with the
+ * message's LUN, the command, the completion code, and where that is 00 the hiomap command, its sequence number and the
+ * response's parameters. docs/PROTOCOL.md has the parameters of each command and version.
+ */
+#define HIOMAP_MESSAGE_NETFN 0
+#define HIOMAP_MESSAGE_IPMI_COMMAND 1
+#define HIOMAP_MESSAGE_COMMAND 2
+#define HIOMAP_MESSAGE_SEQUENCE 3
+#define HIOMAP_MESSAGE_PARAMETERS 4
+#define HIOMAP_RESPONSE_COMPLETION 2
+#define HIOMAP_RESPONSE_COMMAND 3
+#define HIOMAP_RESPONSE_SEQUENCE 4
+#define HIOMAP_RESPONSE_PARAMETERS 5
+
+/* The most bytes of a response. */
+#define HIOMAP_MOST_RESPONSE 16
+
+/* The completion codes: HIOMAP_FAILED + s stands for any response s but HIOMAP_SUCCESS. */
+#define HIOMAP_COMPLETED 0x00
+#define HIOMAP_FAILED 0x80
+#define HIOMAP_INVALID_COMMAND 0xC1
+#define HIOMAP_INVALID_LENGTH 0xC7
 
 /*
  * The bits of the event byte. The first two are events: an ACK clears those of them that it names. The other two
@@ -152,6 +177,16 @@ typedef struct hiomap_list_reply {
 } hiomap_list_reply;
 
 /*
+ * What a message gives back: the bytes of the response, 0 behind them, how many they are, 0, 3 or 5 to 16, and the number
+ * of chip actions.
+ */
+typedef struct hiomap_message_reply {
+    uint8_t response[HIOMAP_MOST_RESPONSE];
+    uint32_t length;
+    uint32_t actions;
+} hiomap_message_reply;
+
+/*
  * How much is pending: the marked window blocks, and the chip actions that their flush takes. `unsound` where `dirty`
  * or `erased` of the record is not the number of such marks; the two numbers are 0 then and mean nothing. It is no
  * test of the rest of the record: one that is not sound for another reason, to which a command answers SYSTEM_ERROR,
@@ -174,6 +209,10 @@ HIOMAP_ASSERT(offsetof(hiomap_suspended, record) == 2 && sizeof(hiomap_suspended
 HIOMAP_ASSERT(offsetof(hiomap_stepped, acted) == 1 && sizeof(hiomap_stepped) == 2, "hiomap_stepped");
 HIOMAP_ASSERT(offsetof(hiomap_list_reply, named) == 1, "hiomap_list_reply");
 HIOMAP_ASSERT(offsetof(hiomap_list_reply, place) == 2 && sizeof(hiomap_list_reply) == 3, "hiomap_list_reply");
+HIOMAP_ASSERT(offsetof(hiomap_message_reply, response) == 0, "hiomap_message_reply");
+HIOMAP_ASSERT(offsetof(hiomap_message_reply, length) == 16, "hiomap_message_reply");
+HIOMAP_ASSERT(offsetof(hiomap_message_reply, actions) == 20, "hiomap_message_reply");
+HIOMAP_ASSERT(sizeof(hiomap_message_reply) == 24, "hiomap_message_reply");
 HIOMAP_ASSERT(offsetof(hiomap_pending_work, blocks) == 4, "hiomap_pending_work");
 HIOMAP_ASSERT(offsetof(hiomap_pending_work, actions) == 8, "hiomap_pending_work");
 HIOMAP_ASSERT(sizeof(hiomap_pending_work) == 12, "hiomap_pending_work");
@@ -200,6 +239,23 @@ hiomap_record hiomap_fresh(void);
  */
 uint32_t hiomap_command(hiomap_record *record, uint8_t (*registers)[HIOMAP_REGISTERS], uint16_t lpc, uint16_t timeout,
                         hiomap_bytes flash, hiomap_bytes memory);
+
+/*
+ * Serves one message, as a KCS port (kcs.h) or another IPMI interface hands it over: the command that it holds leaves
+ * what hiomap_command leaves, and has the same answer.
+ *   record     the session; changed in place, as hiomap_command does
+ *   netfn      the board's pair: the network function, 0 to 63, without the LUN,
+ *   command    and the command that the board reserves for hiomap
+ *   message    the message's bytes, of any number
+ *   lpc, timeout, flash, memory  as hiomap_command has them
+ * The first of these that holds refuses it, and nothing of the record and the buffers changes: a message under two bytes,
+ * the empty response; another network function or command than the board's, C1; under four bytes, or a wrong number of
+ * parameters for a command that the record's version knows, C7; both in three bytes. The LUN is not looked at. A command
+ * that the version does not know is served whatever the number of its parameters: those past the eleventh are dropped.
+ * The host does not see the event byte in a response: the board tells of it by SMS_ATN (docs/INTEGRATION.md).
+ */
+hiomap_message_reply hiomap_message(hiomap_record *record, uint8_t netfn, uint8_t command, hiomap_const_bytes message,
+                                    uint16_t lpc, uint16_t timeout, hiomap_bytes flash, hiomap_bytes memory);
 
 /*
  * Marks all pairs of a list dirty, or none of them: what a MARK_DIRTY of version 2 for each pair does, sent in order,

@@ -7,14 +7,14 @@ import sys
 
 ROOT = pathlib.Path(__file__).resolve().parent.parent
 # Rattle's types as every header writes them
-PLAIN = {"u8": "uint8_t", "u16": "uint16_t", "u32": "uint32_t", "u64": "uint64_t", "usize": "size_t", "bool": "bool", "": "void", "[u8; 64]": "uint8_t[64]"}
+PLAIN = {"u8": "uint8_t", "u16": "uint16_t", "u32": "uint32_t", "u64": "uint64_t", "usize": "size_t", "bool": "bool", "": "void", "[u8; 16]": "uint8_t[16]", "[u8; 64]": "uint8_t[64]"}
 # of each header: the crate, how many structs and functions it has, its own types as the header writes them, and the start of each lent part, which is a
 # struct of the header's own
 LIBRARIES = {
-    "hiomap": ("board", 5, 8, {
+    "hiomap": ("board", 6, 9, {
         "Record": "hiomap_record", "Suspended": "hiomap_suspended", "Stepped": "hiomap_stepped", "Work": "hiomap_pending_work", "&mut Record": "hiomap_record *",
         "&mut [u8; 16]": "uint8_t (*)[16]", "&mut [u8]": "hiomap_bytes", "&[u8]": "hiomap_const_bytes", "&[u16]": "hiomap_const_numbers",
-        "ListReply": "hiomap_list_reply",
+        "ListReply": "hiomap_list_reply", "MessageReply": "hiomap_message_reply",
     }, {"hiomap_bytes": "uint8_t *", "hiomap_const_bytes": "const uint8_t *", "hiomap_const_numbers": "const uint16_t *"}),
     # a port is lent as its bytes; the header asserts that it has as many
     "kcs": ("kcsboard", 1, 6, {
