@@ -16,7 +16,7 @@ use Rattle.messages.specs.declared.Pair.{Pair}
 use Rattle.messages.specs.declared.Opened.{Opened}
 use Rattle.messages.specs.declared.Taken.{Taken}
 use Rattle.messages.specs.declared.Taken.the-variants.{Short, Foreign, Malformed, Command}
-use Rattle.messages.specs.Messages.{hiomapCommandOf, numberOf, parametersOf, isOwn, wrongLength, takenAs, registersFor, opened}
+use Rattle.messages.specs.Messages.{hiomapCommandOf, numberOf, parametersOf, isOwn, wrongLength, malformed, takenAs, registersFor, opened}
 use Rattle.messages.specs.Parameters.{rowOf}
 use Rattle.messages.proofs.Rows.{unpacked-as}
 
@@ -35,14 +35,14 @@ neither false b e = (refl, e)
 pub each-taken : (P : Taken → Type 0) (pair : Pair) (version : ℕ) (message : List ℕ) → (ltb (length message) 2 ≡ true → P Short)
     → (ltb (length message) 2 ≡ false → isOwn pair message ≡ false → P Foreign)
     → (ltb (length message) 2 ≡ false → isOwn pair message ≡ true
-    → (ltb (length message) 4 || wrongLength (rowOf (hiomapCommandOf message) version) (length message - 4)) ≡ true → P Malformed)
+    → malformed version message ≡ true → P Malformed)
     → (Passes pair version message → P Command) → P (takenAs pair version message)
 unfolding takenAs
-each-taken P pair version message short foreign malformed command =
+each-taken P pair version message short foreign wrong command =
     chosen P (ltb (length message) 2) Short _ short λ some.
     chosen P (not (isOwn pair message)) Foreign _ (λ e. foreign some (not-true (isOwn pair message) e)) λ ours.
-    chosen P (ltb (length message) 4 || wrongLength (rowOf (hiomapCommandOf message) version) (length message - 4)) Malformed Command
-    (malformed some (not-false (isOwn pair message) ours))
+    chosen P (malformed version message) Malformed Command
+    (wrong some (not-false (isOwn pair message) ours))
     (λ e.
     let n = neither (ltb (length message) 4) (wrongLength (rowOf (hiomapCommandOf message) version) (length message - 4)) e in
     command record { long = ltb-false (length message) 4 (n .0); own = not-false (isOwn pair message) ours; right = n .1 })

@@ -46,12 +46,16 @@ abbrev pub wrongLength : Option Row → ℕ → Bool
 wrongLength none count = false
 wrongLength (some r) count = not (eqb count (bytesIn (r .request)))
 
+-- "under four bytes, or a wrong length"
+abbrev pub malformed : ℕ → List ℕ → Bool
+malformed version message = ltb (length message) 4 || wrongLength (rowOf (hiomapCommandOf message) version) (length message - 4)
+
 -- "under two bytes, the empty response; foreign pair, C1 hex; under four bytes, or a wrong length .., C7 hex"; otherwise it is a command for the mediator
 unfoldable pub takenAs : Pair → ℕ → List ℕ → Taken
 takenAs pair version message =
     cond (ltb (length message) 2) Short
     (cond (not (isOwn pair message)) Foreign
-    (cond (ltb (length message) 4 || wrongLength (rowOf (hiomapCommandOf message) version) (length message - 4)) Malformed Command))
+    (cond (malformed version message) Malformed Command))
 
 -- ---- "unpack the hiomap command as the I columns of 000 and 002 say"
 

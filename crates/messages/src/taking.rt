@@ -12,7 +12,7 @@ ghost use lib.Dec.{eqb};
 ghost use lib.ListN.{getD};
 ghost use Rattle.registers.specs.Registers.{padded};
 ghost use Rattle.messages.specs.Parameters.{rowOf};
-ghost use Rattle.messages.specs.Messages.{hiomapCommandOf, numberOf, parametersOf, wrongLength, takenAs, opened};
+ghost use Rattle.messages.specs.Messages.{hiomapCommandOf, numberOf, parametersOf, wrongLength, malformed, takenAs, opened};
 
 const NO_REGISTERS: [u8; 16] = [0; 16];
 
@@ -37,17 +37,13 @@ pub fn open_message(pair: Pair, version: u8, message: &[u8]) -> Opened
 fn taken_as(pair: Pair, version: u8, message: &[u8]) -> Taken
     ensures { λ r. ⌜ r ≡ takenAs pair version (now (message .entry)) ⌝ }
 {
-    let count = message.len();
-    if count < 2 {
+    if message.len() < 2 {
         return Taken::Short;
     }
     if !is_own(pair, message[0], message[1]) {
         return Taken::Foreign;
     }
-    if count < 4 {
-        return Taken::Malformed;
-    }
-    if is_wrong_length(message[2], version, count - 4) {
+    if is_malformed(version, message) {
         return Taken::Malformed;
     }
     Taken::Command
@@ -58,6 +54,17 @@ fn is_own(pair: Pair, first: u8, second: u8) -> bool
     ensures { λ r. ⌜ r ≡ (eqb (first / 4) (pair .netfn) && eqb second (pair .command)) ⌝ }
 {
     first / 4 == pair.netfn && second == pair.command
+}
+
+// There is no hiomap command with its number, or not its parameters.
+fn is_malformed(version: u8, message: &[u8]) -> bool
+    ensures { λ r. ⌜ r ≡ malformed version (now (message .entry)) ⌝ }
+{
+    let count = message.len();
+    if count < 4 {
+        return true;
+    }
+    is_wrong_length(message[2], version, count - 4)
 }
 
 // A command that the version does not know has no wrong length.

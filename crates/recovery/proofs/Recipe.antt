@@ -39,11 +39,11 @@ use Rattle.recovery.proofs.SecondList.{fresh-as, info-leaves, create-op
 use Rattle.recovery.proofs.Sending.{word, hinted, info-taken, Serving, markedAs, create-taken, create-session, dirty-sent, erase-sent, flush-taken}
 
 -- ---- lists of calls one after the other
-append-allowed : (n : ℕ) (xs ys : List Call) → AllAllowed n xs → AllAllowed n ys → AllAllowed n (xs ++ ys)
+pub append-allowed : (n : ℕ) (xs ys : List Call) → AllAllowed n xs → AllAllowed n ys → AllAllowed n (xs ++ ys)
 append-allowed n [] ys p q = q
 append-allowed n (x ∷ xs) ys p q = (p .0, append-allowed n xs ys (p .1) q)
 
-append-called : (setup : Setup) (xs ys : List Call) (m : Machine) → calledAll setup (xs ++ ys) m ≡ calledAll setup ys (calledAll setup xs m)
+pub append-called : (setup : Setup) (xs ys : List Call) (m : Machine) → calledAll setup (xs ++ ys) m ≡ calledAll setup ys (calledAll setup xs m)
 append-called setup [] ys m = refl
 append-called setup (x ∷ xs) ys m = append-called setup xs ys (called setup x m)
 

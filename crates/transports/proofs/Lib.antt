@@ -1,0 +1,9 @@
+pub mod Demand
+pub mod Kcs
+pub mod Looking
+pub mod Runs
+pub mod Same
+pub mod Sent
+pub mod Statuses
+pub mod Told
+pub mod Whole

@@ -9,9 +9,7 @@ use Rattle.messages.proofs.taking.taken_as.Tie as tie
 
 returns : tie.Need-returns
 unfolding takenAs
-returns c =
-    let n = length (c .before .before .args .message .now) in
-    rw (lt-ltb n 2 (c .if1 .taken))
+returns c = rw (lt-ltb (length (c .before .before .args .message .now)) 2 (c .if1 .taken))
 
 shared-slice-read-is-own : tie.Need-shared-slice-read-is-own
 shared-slice-read-is-own c = search needs
@@ -30,51 +28,35 @@ returns-2 c =
     let n = length (long .before .before .args .message .now) in
     rw (le-ltb n 2 (long .if1 .left), sym (own .ensures) ∙ not-true (own .result) (c .if2 .taken))
 
+is-malformed-requires : tie.Need-is-malformed-requires
+is-malformed-requires c κs = search needs
+
 returns-3 : tie.Need-returns-3
 unfolding takenAs
 returns-3 c =
-    let ours = c .before in
+    let wrong = c .before .is-malformed in
+    let ours = c .before .before in
     let own = ours .before .is-own in
     let long = ours .before .before .before .before in
     let n = length (long .before .before .args .message .now) in
-    rw (le-ltb n 2 (long .if1 .left), sym (own .ensures) ∙ not-false (own .result) (ours .if2 .left), lt-ltb n 4 (c .if3 .taken))
-
-shared-slice-read-is-wrong-length : tie.Need-shared-slice-read-is-wrong-length
-shared-slice-read-is-wrong-length c = search needs
-
-is-wrong-length-requires : tie.Need-is-wrong-length-requires
-is-wrong-length-requires c κs = search needs
+    rw (
+      le-ltb n 2 (long .if1 .left),
+      sym (own .ensures) ∙ not-false (own .result) (ours .if2 .left),
+      sym (wrong .ensures) ∙ c .if3 .taken,
+    )
 
 returns-4 : tie.Need-returns-4
 unfolding takenAs
 returns-4 c =
-    let wrong = c .before .is-wrong-length in
-    let whole = c .before .before .before in
-    let ours = whole .before in
+    let wrong = c .before .is-malformed in
+    let ours = c .before .before in
     let own = ours .before .is-own in
     let long = ours .before .before .before .before in
     let n = length (long .before .before .args .message .now) in
     rw (
       le-ltb n 2 (long .if1 .left),
       sym (own .ensures) ∙ not-false (own .result) (ours .if2 .left),
-      le-ltb n 4 (whole .if3 .left),
-      sym (wrong .ensures) ∙ c .if4 .taken,
-    )
-
-returns-5 : tie.Need-returns-5
-unfolding takenAs
-returns-5 c =
-    let wrong = c .before .is-wrong-length in
-    let whole = c .before .before .before in
-    let ours = whole .before in
-    let own = ours .before .is-own in
-    let long = ours .before .before .before .before in
-    let n = length (long .before .before .args .message .now) in
-    rw (
-      le-ltb n 2 (long .if1 .left),
-      sym (own .ensures) ∙ not-false (own .result) (ours .if2 .left),
-      le-ltb n 4 (whole .if3 .left),
-      sym (wrong .ensures) ∙ c .if4 .left,
+      sym (wrong .ensures) ∙ c .if3 .left,
     )
 
 pub taken-as-spec : {M : Type 1} → statement M
@@ -86,8 +68,6 @@ taken-as-spec =
     shared-slice-read-is-own-2
     is-own-requires
     returns-2
+    is-malformed-requires
     returns-3
-    shared-slice-read-is-wrong-length
-    is-wrong-length-requires
-    returns-4
-    returns-5)
+    returns-4)
