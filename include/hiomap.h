@@ -75,10 +75,10 @@ extern "C" {
 #define HIOMAP_SEQ_ERROR 8
 
 /*
- * A message: the network function in the high six bits of its first byte, with the LUN in the low two, the command, then
- * the hiomap command, its sequence number and its parameters. A response: the network function made odd, with the
+ * A message: the network function in the high six bits of its first byte, with the LUN in the low two, the command, the
+ * hiomap command, its sequence number and its parameters. A response: the network function made odd, with the
  * message's LUN, the command, the completion code, and where that is 00 the hiomap command, its sequence number and the
- * response's parameters. docs/PROTOCOL.md has the parameters of each command and version.
+ * response's parameters. docs/PROTOCOL.md, "Messages", has the parameters of each command and version.
  */
 #define HIOMAP_MESSAGE_NETFN 0
 #define HIOMAP_MESSAGE_IPMI_COMMAND 1
@@ -177,8 +177,8 @@ typedef struct hiomap_list_reply {
 } hiomap_list_reply;
 
 /*
- * What a message gives back: the bytes of the response, 0 behind them, how many they are, 0, 3 or 5 to 16, and the number
- * of chip actions.
+ * What a message gives back: the bytes of the response, 0 behind them, how many they are (none, 3, or 5 and the response's
+ * parameters), and the number of chip actions.
  */
 typedef struct hiomap_message_reply {
     uint8_t response[HIOMAP_MOST_RESPONSE];
@@ -244,15 +244,16 @@ uint32_t hiomap_command(hiomap_record *record, uint8_t (*registers)[HIOMAP_REGIS
  * Serves one message, as a KCS port (kcs.h) or another IPMI interface hands it over: the command that it holds leaves
  * what hiomap_command leaves, and has the same answer.
  *   record     the session; changed in place, as hiomap_command does
- *   netfn      the board's pair: the network function, 0 to 63, without the LUN,
+ *   netfn      the board's pair: the network function, 0 to 63, without the LUN (a number above 63 is no message's),
  *   command    and the command that the board reserves for hiomap
  *   message    the message's bytes, of any number
  *   lpc, timeout, flash, memory  as hiomap_command has them
- * The first of these that holds refuses it, and nothing of the record and the buffers changes: a message under two bytes,
- * the empty response; another network function or command than the board's, C1; under four bytes, or a wrong number of
- * parameters for a command that the record's version knows, C7; both in three bytes. The LUN is not looked at. A command
- * that the version does not know is served whatever the number of its parameters: those past the eleventh are dropped.
- * The host does not see the event byte in a response: the board tells of it by SMS_ATN (docs/INTEGRATION.md).
+ * The first of these that holds refuses it, and nothing of the record and the buffers changes: under two bytes, the
+ * empty response; another network function or command than the board's, C1; under four bytes, or a wrong number of
+ * parameters for a command that the record's version knows, C7; both in three bytes. The LUN is not looked at. What
+ * comes next is the mediator's: a record that is not sound is HIOMAP_FAILED + 4. A command that the version does not
+ * know is served whatever the number of its parameters, those past the eleventh dropped; a version above 2 knows none.
+ * No response has the event byte: docs/INTEGRATION.md says what a board does about it.
  */
 hiomap_message_reply hiomap_message(hiomap_record *record, uint8_t netfn, uint8_t command, hiomap_const_bytes message,
                                     uint16_t lpc, uint16_t timeout, hiomap_bytes flash, hiomap_bytes memory);
