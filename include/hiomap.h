@@ -177,8 +177,8 @@ typedef struct hiomap_list_reply {
 } hiomap_list_reply;
 
 /*
- * What a message gives back: the bytes of the response, 0 behind them, how many they are (none, 3, or 5 and the response's
- * parameters), and the number of chip actions.
+ * What a message gives back: the bytes of the response, 0 behind them, how many they are (none, 3, or 5 and those of
+ * the response's parameters), and the number of chip actions.
  */
 typedef struct hiomap_message_reply {
     uint8_t response[HIOMAP_MOST_RESPONSE];

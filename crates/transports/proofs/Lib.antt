@@ -1,5 +1,6 @@
 pub mod Demand
 pub mod Kcs
+pub mod Known
 pub mod Looking
 pub mod Runs
 pub mod Same

@@ -5,7 +5,7 @@ use mathlib.Core.Bool.{Bool, true, false, _&&_}
 use mathlib.Core.List.{List, [], _∷_}
 use mathlib.Core.Option.{Option, none, some}
 use lib.Dec.{eqb, leb}
-use Rattle.messages.specs.Parameters.{Parameter, Row, rowOf, isKnown, bytesIn}
+use Rattle.messages.specs.Parameters.{Parameter, Row, rowOf, isKnown}
 use Rattle.invariants.specs.Codes.{knows}
 
 -- "Version 0 knows 1, 2 and 9; version 1 knows 1 to 9; version 2 knows 1 to 10", and the commands that the table has rows of are those; a version above 2 does

@@ -7,10 +7,14 @@
 //! Ticket 5 changes no answer. No other ticket is in.
 //! Module kcs was written from 001, ticket 3 of 02 and that ticket's readings
 //! alone; the host in it, for tests, from the charts as they are generally known.
+//! Module messages was written from 01, ticket 6 of 02, that ticket's readings and
+//! the I columns of 000 and 002.
 //! It is plain on purpose: it is there to be compared with.
 
 /// The controller's side of a KCS port (ticket 3).
 pub mod kcs;
+/// hiomap messages through that port (ticket 6).
+pub mod messages;
 
 /// Bytes in a block, which is also the erase granule.
 pub const BLOCK: usize = 4096;
