@@ -1,22 +1,22 @@
 -- What a message leaves of a record, by what the code was told of it, and beside the session that the record stands for: specs/Messages.antt.
 use mathlib.Core.Path.{_≡_, refl, sym, ap, _∙_}
-use mathlib.Core.Bool.{true, cond}
+use mathlib.Core.Bool.{true}
 use mathlib.Core.List.{List, [], _∷_}
 use Prim.Native.Nat.{ℕ}
 use denote.Enum.Declared.{tagOf}
 use types.Run.{OneOf}
 use Rattle.units.proofs.Keys.{none-of}
-use Rattle.session.specs.Machine.{Setup, Machine, lent}
+use Rattle.session.specs.Machine.{Setup, lent}
 use Rattle.messages.proofs.Taken.{the-type}
 use Rattle.messages.specs.declared.Pair.{Pair}
 use Rattle.messages.specs.declared.Opened.{Opened}
 use Rattle.messages.specs.declared.Taken.{Taken}
 use Rattle.messages.specs.declared.Taken.the-variants.{Short, Foreign, Malformed, Command}
-use Rattle.messages.specs.Messages.{takenAs, registersOf, registersFor, refusal, responseOf, opened, laid}
+use Rattle.messages.specs.Messages.{takenAs, registersOf, registersFor, refusal, opened, laid}
 use Rattle.mailbox.specs.Mediator.{mediate}
 use Rattle.ipmi.specs.Served.{Served, servedAs, served}
 use Rattle.board.specs.declared.Record.{Record}
-use Rattle.board.specs.Calls.{Left, kept, commanded}
+use Rattle.board.specs.Calls.{commanded}
 use Rattle.board.specs.Messages.{Messaged, untouchedRecord, mediatedRecord, messagedAs, messagedRecord, replyOf, MessageFollows}
 use Rattle.board.specs.Record.{isRegular, sessionOf, recordOf}
 use Rattle.board.proofs.Answers.{nothing-lost}

@@ -13,7 +13,7 @@ use Rattle.ipmi.specs.Served.{served}
 use Rattle.board.specs.declared.MessageReply.{MessageReply}
 use Rattle.board.specs.declared.Record.{Record}
 use Rattle.board.specs.declared.message.ServedMessage.{ServedMessage}
-use Rattle.board.specs.Calls.{Left, left, commanded}
+use Rattle.board.specs.Calls.{Left, commanded}
 use Rattle.board.specs.Record.{isRegular, sessionOf, recordOf}
 
 -- "the board's pair", as C passes it

@@ -13,7 +13,7 @@ use Rattle.messages.specs.declared.Taken.{Taken}
 use Rattle.messages.specs.declared.Taken.the-variants.{Short, Foreign, Malformed, Command}
 use Rattle.messages.specs.Messages.{takenAs, registersFor, refusal, opened}
 use Rattle.mailbox.specs.Mediator.{mediate}
-use Rattle.ipmi.specs.Served.{Served, untouched, mediated, servedAs, served}
+use Rattle.ipmi.specs.Served.{untouched, mediated, servedAs, served}
 
 -- by what became of it
 pub served-as : (setup : Setup) (pair : Pair) (message : List ℕ) (m : Machine) (t : Taken) → t ≡ takenAs pair (m .session .version) message

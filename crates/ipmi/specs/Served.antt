@@ -1,6 +1,6 @@
 -- What a message leaves, for every message, session and buffer: document 02, Ticket 6.
 use Prim.Native.Nat.{ℕ}
-use mathlib.Core.List.{List, []}
+use mathlib.Core.List.{List}
 use Rattle.session.specs.Machine.{Setup, Machine}
 use Rattle.messages.specs.declared.Pair.{Pair}
 use Rattle.messages.specs.declared.Taken.{Taken}

@@ -1,6 +1,6 @@
 -- What a message tells that is taken, and its registers.
 use mathlib.Core.Path.{_≡_, refl, sym, ap, subst, _∙_}
-use mathlib.Core.Bool.{Bool, true, false, cond, not, _||_, false≢true}
+use mathlib.Core.Bool.{Bool, true, false, not, _||_, false≢true}
 use mathlib.Core.List.{List, [], _∷_, _++_}
 use Prim.Native.Nat.{ℕ, _-_, _≤_}
 use lib.Dec.{ltb}
@@ -13,7 +13,6 @@ use Rattle.units.proofs.Keys.{none-of}
 use Rattle.registers.specs.Registers.{padded}
 use Rattle.messages.proofs.Taken.{the-type}
 use Rattle.messages.specs.declared.Pair.{Pair}
-use Rattle.messages.specs.declared.Opened.{Opened}
 use Rattle.messages.specs.declared.Taken.{Taken}
 use Rattle.messages.specs.declared.Taken.the-variants.{Short, Foreign, Malformed, Command}
 use Rattle.messages.specs.Messages.{hiomapCommandOf, numberOf, parametersOf, isOwn, wrongLength, malformed, takenAs, registersFor, opened}

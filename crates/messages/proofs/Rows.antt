@@ -12,7 +12,7 @@ use Rattle.registers.specs.Registers.{padded}
 use Rattle.registers.proofs.Fields.{elements-of}
 use Rattle.messages.specs.Lengths.{asked, told}
 use Rattle.messages.specs.Messages.{wrongLength, unpacked, argumentsOf, packedFrom, valuesOf}
-use Rattle.messages.specs.Parameters.{Parameter, y, q, u, Row, row, table, rowIn, rowOf, isRow, bytesIn}
+use Rattle.messages.specs.Parameters.{Parameter, y, q, u, Row, table, rowIn, rowOf, isRow, bytesIn}
 
 abbrev pub Every : (ℕ → ℕ → Option Row → Type 0) → List Row → Type 0
 Every P [] = Unit

@@ -1,7 +1,7 @@
 -- Hiomap commands as messages: 000 and 002, "IPMI Transport", and document 02, Ticket 6. A message is taken or refused, unpacked to the registers of a mailbox
 -- command, and answered from the registers that the mediator leaves.
 use Prim.Native.Nat.{ℕ, _+_, _-_, _*_, _/_, _%_}
-use mathlib.Core.Bool.{Bool, true, false, cond, not, _&&_, _||_}
+use mathlib.Core.Bool.{Bool, false, cond, not, _&&_, _||_}
 use mathlib.Core.List.{List, [], _∷_, _++_}
 use mathlib.Core.Option.{Option, none, some}
 use lib.Dec.{eqb, ltb}

@@ -3,16 +3,15 @@ use mathlib.Core.Path.{_≡_, refl, sym, ap, subst, _∙_}
 use mathlib.Core.Bool.{true}
 use mathlib.Core.List.{List, [], _∷_, _++_}
 use mathlib.Core.Option.{Option}
-use Prim.Native.Nat.{ℕ, suc, _+_, _≤_, _<_}
+use Prim.Native.Nat.{ℕ, _+_, _≤_}
 use native.Mathlib.Omega.{arith}
-use lib.Dec.{eqb, ltb, leb}
+use lib.Dec.{eqb, leb}
 use lib.ListN.{length}
 use borrow.Author.Tests.{leb-true, ltb-true}
 use Rattle.units.proofs.Cases.{chosen}
 use Rattle.session.specs.Machine.{Setup, Machine}
 use Rattle.registers.specs.Registers.{commandOf, sequenceOf}
 use Rattle.registers.proofs.Fields.{elements, elements-of}
-use Rattle.kcs.specs.Port.{Port}
 use Rattle.kcshost.specs.Host.{begin, readTransfer}
 use Rattle.kcshost.proofs.Reading.{published-exchange}
 use Rattle.kcshost.proofs.Waiting.{read-goes-on}
@@ -28,8 +27,8 @@ use Rattle.mailbox.specs.Mediator.{mediate}
 use Rattle.mailbox.specs.Runs.{calledAll}
 use Rattle.ipmi.specs.Served.{Served, servedAs, served}
 use Rattle.ipmi.proofs.Serving.{served-as}
-use Rattle.transports.specs.Same.{givenBy, messageOf, completionIn, statusTold, answers, Equals, Same}
-use Rattle.transports.specs.Kcs.{written, answeredTo, exchangedAll, sendAll, SameAnswers, AllOf16, MessageByKcs, AnswerGoesOn, KcsAsMailbox}
+use Rattle.transports.specs.Same.{givenBy, messageOf, completionIn, statusTold, answers, Equals}
+use Rattle.transports.specs.Kcs.{written, answeredTo, exchangedAll, sendAll, SameAnswers, MessageByKcs, AnswerGoesOn, KcsAsMailbox}
 use Rattle.transports.proofs.Told.{mediate-answers, answers-long}
 use Rattle.transports.proofs.Same.{same-by-message}
 

@@ -1,14 +1,14 @@
 -- A run with messages is a run of calls: the claims stand in specs/Runs.antt.
 use mathlib.Core.Path.{_≡_, refl, sym, ap, subst, _∙_}
 use mathlib.Core.Bool.{true}
-use mathlib.Core.List.{List, [], _∷_, _++_}
+use mathlib.Core.List.{List, [], _∷_}
 use Prim.Native.Nat.{ℕ}
 use Rattle.session.specs.Machine.{Setup, Machine}
 use Rattle.soundness.specs.Soundness.{soundIn}
 use Rattle.messages.specs.declared.Taken.{Taken}
 use Rattle.messages.specs.declared.Taken.the-variants.{Short, Foreign, Malformed, Command}
 use Rattle.messages.specs.Messages.{takenAs, registersOf}
-use Rattle.mailbox.specs.Runs.{Call, called, calledAll}
+use Rattle.mailbox.specs.Runs.{calledAll}
 use Rattle.ipmi.specs.Served.{Served, servedAs}
 use Rattle.ipmi.proofs.Serving.{served-as}
 use Rattle.invariants.proofs.Runs.{run-keeps, run-served}

@@ -25,7 +25,8 @@ use Rattle.ipmi.proofs.Serving.{served-as}
 use Rattle.transports.specs.Same.{messageOf, completionIn, statusTold, answers, Equal, Equals, Same, SameByMessage}
 use Rattle.transports.proofs.Looking.{Seen, seen}
 use Rattle.transports.proofs.Sent.{message-taken, message-alike}
-use Rattle.transports.proofs.Told.{Answers, mediate-answers, answers-long}
+use Rattle.transports.proofs.Statuses.{response-few}
+use Rattle.transports.proofs.Told.{mediate-answers, answers-long}
 use Rattle.transports.proofs.Whole.{Whole, success-whole}
 
 -- ---- a response has nothing of registers 14 and 15
@@ -227,7 +228,7 @@ mediate-same : (setup : Setup) (message registers : List ℕ) (m : Machine)
 mediate-same setup message registers m =
     let a = mediate-answers setup registers m in
     same-mediated message (mediate setup registers m) (answers-long registers (mediate setup registers m) a)
-    (subst (λ (s : ℕ). s < 128) (sym (ap statusOf (a .are))) (a .few))
+    (let few = response-few setup registers m in omega arith)
     (λ e. subst (λ (c : ℕ). Whole c (mediate setup registers m)) (sym (ap commandOf (a .are))) (success-whole setup registers m e))
 
 pub same-by-message : SameByMessage

@@ -1,9 +1,8 @@
 -- The status of a command is the code of its reason, and what the completion code of a message tells of it.
 use mathlib.Core.Path.{_≡_, refl, sym, ap, subst, _∙_}
 use mathlib.Core.Bool.{Bool, true, false, cond, false≢true}
-use mathlib.Core.List.{List, [], _∷_, _++_}
+use mathlib.Core.List.{List, _∷_, _++_}
 use Prim.Native.Nat.{ℕ, _≤_, min}
-use native.Mathlib.Nat.{le-refl}
 use native.Mathlib.Omega.{arith}
 use lib.Dec.{eqb, ltb, lit≤}
 use lib.ListN.{length, getD}
@@ -24,20 +23,20 @@ use Rattle.messages.specs.declared.Taken.{Taken}
 use Rattle.messages.specs.declared.Taken.the-variants.{Short, Foreign, Malformed, Command}
 use Rattle.messages.specs.Messages.{registersOf, headed, statusOf, completionOf, valuesOf, responseOf}
 use Rattle.messages.specs.Parameters.{rowOf}
-use Rattle.messages.proofs.Cells.{filled}
 use Rattle.mailbox.specs.Commands.{Outcome, numberedIn, infoArguments, informed, flashInformed, hint, sizeFor, createArguments, created}
 use Rattle.mailbox.specs.Table as table
 use Rattle.mailbox.specs.Mediator.{commandAt, commandIn, reasonOf, reasonIn, answerTo, mediate, response}
 use Rattle.mailbox.proofs.Mediating.{mediate-as, each-command}
 use Rattle.ipmi.specs.Served.{servedAs}
 use Rattle.transports.specs.Same.{completionIn}
+use Rattle.transports.proofs.Looking.{reply-as}
 
 -- ---- the status of a command
 
 -- it stands behind all 11 arguments, however many the response has
 replied : (registers arguments : List ℕ) (code events : ℕ) → statusOf (reply registers code (padded arguments) events) ≡ code
 replied registers arguments code events =
-    ap (λ (t : List ℕ). getD (t ++ (code ∷ getD registers 14 0 ∷ events ∷ [])) 11 0) (filled 11 11 arguments (le-refl 11))
+    ap (λ (t : List ℕ). getD t 13 0) (reply-as registers code arguments events)
 
 module _ (setup : Setup) (registers : List ℕ) (m : Machine) where
   abbrev status : Outcome → ℕ

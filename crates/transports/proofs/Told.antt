@@ -2,11 +2,10 @@
 use mathlib.Core.Path.{_≡_, ap}
 use mathlib.Core.Bool.{cond}
 use mathlib.Core.List.{List, [], _∷_, _++_}
-use Prim.Native.Nat.{ℕ, min, _<_}
-use lib.Dec.{ltb, lit≤}
+use Prim.Native.Nat.{ℕ, min}
+use lib.Dec.{ltb}
 use lib.ListN.{length, getD}
 use Rattle.units.specs.Units.{blockBytes, toBytes, roundUp}
-use Rattle.units.proofs.Cases.{chosen}
 use Rattle.session.specs.declared.Session.{Session}
 use Rattle.session.specs.Machine.{Setup, Machine}
 use Rattle.registers.specs.Registers.{commandOf, sequenceOf, argument, number, bytesOf}
@@ -21,21 +20,20 @@ use Rattle.mailbox.specs.Mediator.{commandAt, commandIn, reasonIn, answerTo, ob
 use Rattle.mailbox.proofs.Mediating.{each-command}
 use Rattle.transports.proofs.Looking.{reply-as}
 
--- ---- the registers of an answer: its command and number, its arguments, a response below 80 hex, register 14 as received and the event byte
+-- ---- the registers of an answer: its command and number, its arguments, a response, register 14 as received and the event byte
 pub record Answers (registers : List ℕ) (o : Outcome) : Type 0 where
   pub arguments : List ℕ
   pub code : ℕ
   pub events : ℕ
-  pub few : code < 128
   pub are : o .registers ≡ commandOf registers ∷ sequenceOf registers ∷ (elements 11 0 arguments ++ (code ∷ getD registers 14 0 ∷ events ∷ []))
 
 pub answers-long : (registers : List ℕ) (o : Outcome) → Answers registers o → length (o .registers) ≡ 16
 answers-long registers o a = ap (λ (t : List ℕ). length t) (a .are)
 
-answers-with : (s : Session) (registers : List ℕ) (code : ℕ) (arguments : List ℕ) (actions : ℕ) (flash memory : List ℕ) → code < 128
+answers-with : (s : Session) (registers : List ℕ) (code : ℕ) (arguments : List ℕ) (actions : ℕ) (flash memory : List ℕ)
     → Answers registers (outcome (answered s registers code arguments actions) flash memory)
-answers-with s registers code arguments actions flash memory h =
-    record { arguments = arguments; code = code; events = s .events; few = h; are = reply-as registers code arguments (s .events) }
+answers-with s registers code arguments actions flash memory =
+    record { arguments = arguments; code = code; events = s .events; are = reply-as registers code arguments (s .events) }
 
 module _ (setup : Setup) (registers : List ℕ) (m : Machine) where
   abbrev S : ℕ
@@ -56,17 +54,17 @@ module _ (setup : Setup) (registers : List ℕ) (m : Machine) where
   served-answers : (n : ℕ) → Answers registers (commandAt n .leaves setup registers (numberedIn registers m))
   served-answers =
       each-command (λ (_ : ℕ) (c : Command). Answers registers (c .leaves setup registers (numberedIn registers m)))
-      (answers-with _ registers 1 [] _ _ _ (lit≤ tt))
-      (answers-with _ registers 1 (infoArguments (min (argument 0 registers) 2) C (setup .timeout)) _ _ _ (lit≤ tt))
-      (answers-with _ registers 1 (cond (ltb version 2) (bytesOf 4 (toBytes S) ++ bytesOf 4 blockBytes) (bytesOf 2 S ++ bytesOf 2 1)) _ _ _ (lit≤ tt))
-      (answers-with _ registers 1 window _ _ _ (lit≤ tt))
-      (answers-with _ registers 1 [] _ _ _ (lit≤ tt))
-      (answers-with _ registers 1 window _ _ _ (lit≤ tt))
-      (answers-with _ registers 1 [] _ _ _ (lit≤ tt))
-      (answers-with _ registers 1 [] _ _ _ (lit≤ tt))
-      (answers-with _ registers 1 [] _ _ _ (lit≤ tt))
-      (answers-with _ registers 1 [] _ _ _ (lit≤ tt))
-      (λ _. answers-with _ registers 2 [] _ _ _ (lit≤ tt))
+      (answers-with _ registers 1 [] _ _ _)
+      (answers-with _ registers 1 (infoArguments (min (argument 0 registers) 2) C (setup .timeout)) _ _ _)
+      (answers-with _ registers 1 (cond (ltb version 2) (bytesOf 4 (toBytes S) ++ bytesOf 4 blockBytes) (bytesOf 2 S ++ bytesOf 2 1)) _ _ _)
+      (answers-with _ registers 1 window _ _ _)
+      (answers-with _ registers 1 [] _ _ _)
+      (answers-with _ registers 1 window _ _ _)
+      (answers-with _ registers 1 [] _ _ _)
+      (answers-with _ registers 1 [] _ _ _)
+      (answers-with _ registers 1 [] _ _ _)
+      (answers-with _ registers 1 [] _ _ _)
+      (λ _. answers-with _ registers 2 [] _ _ _)
 
   -- a refusal for its argument
   broken-answers : (n : ℕ) → Answers registers (commandAt n .whenBroken 2 registers (numberedIn registers m))
@@ -75,31 +73,21 @@ module _ (setup : Setup) (registers : List ℕ) (m : Machine) where
       other other other closing other closing other other other other (λ _. other)
     where
       other : Answers registers (refused 2 registers (numberedIn registers m))
-      other = answers-with _ registers 2 [] _ _ _ (lit≤ tt)
+      other = answers-with _ registers 2 [] _ _ _
 
       closing : Answers registers (commands.closing 2 registers (numberedIn registers m))
-      closing = answers-with _ registers 2 [] _ _ _ (lit≤ tt)
-
-  -- each code of a refusal
-  code-few : (r : Reason) → codeFor version r < 128
-  code-few Accepted = lit≤ tt
-  code-few System = lit≤ tt
-  code-few Repeated = chosen (λ (n : ℕ). n < 128) (ltb version 2) 2 8 (λ _. lit≤ tt) (λ _. lit≤ tt)
-  code-few Unknown = lit≤ tt
-  code-few Suspended = chosen (λ (n : ℕ). n < 128) (ltb version 2) 5 6 (λ _. lit≤ tt) (λ _. lit≤ tt)
-  code-few Windowless = chosen (λ (n : ℕ). n < 128) (ltb version 2) 2 7 (λ _. lit≤ tt) (λ _. lit≤ tt)
-  code-few Argument = lit≤ tt
+      closing = answers-with _ registers 2 [] _ _ _
 
   pub mediate-answers : Answers registers (mediate setup registers m)
   unfolding mediate obeyed answerTo
   mediate-answers = by (reasonIn setup registers m)
     where
       late : (r : Reason) → Answers registers (refused (codeFor version r) registers (numberedIn registers m))
-      late r = answers-with _ registers (codeFor version r) [] _ _ _ (code-few r)
+      late r = answers-with _ registers (codeFor version r) [] _ _ _
 
       by : (r : Reason) → Answers registers (answerTo r (commandIn registers) setup registers m)
       by Accepted = served-answers (commandOf registers)
-      by System = answers-with _ registers 4 [] _ _ _ (lit≤ tt)
+      by System = answers-with _ registers 4 [] _ _ _
       by Repeated = late Repeated
       by Unknown = late Unknown
       by Suspended = late Suspended

@@ -1,16 +1,12 @@
 -- `messages::packing::values_of` meets its contract.
 use mathlib.Core.Path.{_≡_, sym, ap, _∙_}
-use mathlib.Core.Bool.{Bool, true, false, _&&_, false≢true}
-use mathlib.Core.List.{List, [], _∷_}
+use mathlib.Core.List.{[], _∷_}
 use Prim.Native.Nat.{ℕ}
 use borrow.Author.Needs.{needs}
-use borrow.Author.Tests.{eqb-true, eq-eqb}
+use borrow.Author.Tests.{eqb-true}
 use lib.Dec.{eqb}
 use lib.ListN.{length}
 use Rattle.units.proofs.Cases.{both}
-use Rattle.registers.specs.Registers.{padded}
-use Rattle.messages.specs.Messages.{valuesOf}
-use Rattle.messages.specs.Parameters.{rowOf}
 use Rattle.messages.proofs.Rows.{front, packed-as, info-packed, not-info}
 use Rattle.messages.proofs.packing.values_of.Statement.{statement}
 use Rattle.messages.proofs.packing.values_of.Tie as tie

@@ -1,6 +1,5 @@
 -- `messages::taking::is_wrong_length` meets its contract.
 use mathlib.Core.Path.{sym, _∙_}
-use lib.Dec.{eqb}
 use borrow.Author.Needs.{needs}
 use borrow.Author.Tests.{eq-eqb, ne-eqb}
 use Rattle.messages.specs.Lengths.{asked}
