@@ -1,4 +1,5 @@
 pub mod Demand
+pub mod Examples
 pub mod Kcs
 pub mod Known
 pub mod Runs
