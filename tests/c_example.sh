@@ -26,4 +26,4 @@ for header in include/*.h; do
 done
 prints_as_expected examples/board/loop.c board
 prints_as_expected examples/kcs/echo.c kcsboard
-prints_as_expected examples/messages/loop.c board kcsboard
+prints_as_expected examples/messages/loop.c board ipmiboard kcsboard

@@ -27,7 +27,7 @@ def most(function, frames, calls):
 
 
 print("| call | bytes of stack |\n|---|---|")
-for crate, prefix in (("board", "hiomap_"), ("kcsboard", "kcs_")):
+for crate, prefix in (("board", "hiomap_"), ("ipmiboard", "hiomap_"), ("kcsboard", "kcs_")):
     frames, calls = read(f"target/staticlib/lib{crate}.a")
     for function in sorted(frames):
         if function.startswith(prefix):

@@ -1,6 +1,6 @@
 #!/usr/bin/env bash
-# staticlib.sh [CRATE]: the archive that C and Rust link, target/staticlib/libCRATE.a, made again where a source is newer. CRATE is board
-# or kcsboard; board without one. Quiet unless it fails.
+# staticlib.sh [CRATE]: the archive that C and Rust link, target/staticlib/libCRATE.a, made again where a source is newer. CRATE is board,
+# ipmiboard or kcsboard; board without one. Quiet unless it fails.
 set -euo pipefail
 cd "$(dirname "$0")/.."
 crate=${1:-board}

@@ -5,7 +5,6 @@
 mod access;
 mod convert;
 mod lists;
-mod message;
 mod pending;
 mod serving;
 
@@ -15,9 +14,10 @@ pub use access::hiomap_step;
 pub use access::hiomap_suspend;
 use convert::record_of;
 pub use lists::hiomap_mark_list;
-pub use message::hiomap_message;
 pub use pending::hiomap_pending;
+pub use serving::Served;
 pub use serving::hiomap_command;
+pub use serving::serve;
 use session::new_session;
 ghost use mathlib.Core.Path.{_≡_};
 ghost use Rattle.board.specs.Record.{recordOf};
@@ -63,14 +63,6 @@ pub struct ListReply {
     pub code: u8,
     pub named: bool,
     pub place: u8,
-}
-
-// What a message gives back: the response's bytes, zero behind them, how many they are, and the number of chip actions.
-#[repr(C)]
-pub struct MessageReply {
-    pub response: [u8; 16],
-    pub length: u32,
-    pub actions: u32,
 }
 
 // How much is pending: whether a kept number disagrees with the marks, and else the number of marked blocks, and

@@ -23,7 +23,7 @@ pub struct Served {
 }
 
 // Serves one mailbox command. A record with a number that stands for nothing is refused, and stays.
-pub(crate) fn serve(
+pub fn serve(
     held: Record,
     registers: [u8; 16],
     lpc: u16,

@@ -1,7 +1,7 @@
 // A message over a record: the command that it holds is served as one of the mailbox is.
 use crate::MessageReply;
-use crate::Record;
-use crate::serving::serve;
+use board::Record;
+use board::serve;
 use messages::Pair;
 use messages::Response;
 use messages::Taken;
@@ -9,8 +9,8 @@ use messages::open_message;
 use messages::pack;
 use messages::refuse;
 ghost use mathlib.Core.Path.{_≡_};
 ghost use Rattle.board.specs.Calls.{board, commanded};
-ghost use Rattle.board.specs.Messages.{pairOf, replyOf, tellsMessage, mediatedRecord, messagedRecord};
+ghost use Rattle.ipmiboard.specs.Messages.{pairOf, replyOf, tellsMessage, mediatedRecord, messagedRecord};
 
 // What a message gives back.
 pub struct ServedMessage {

@@ -10,11 +10,11 @@ use Rattle.messages.specs.declared.Taken.the-variants.{Short, Foreign, Malforme
 use Rattle.messages.specs.declared.Response.{Response}
 use Rattle.messages.specs.Messages.{takenAs, registersOf, refusal, responseOf, laid}
 use Rattle.ipmi.specs.Served.{served}
-use Rattle.board.specs.declared.MessageReply.{MessageReply}
+use Rattle.ipmiboard.specs.declared.MessageReply.{MessageReply}
 use Rattle.board.specs.declared.Record.{Record}
-use Rattle.board.specs.declared.message.ServedMessage.{ServedMessage}
+use Rattle.ipmiboard.specs.declared.message.ServedMessage.{ServedMessage}
 use Rattle.board.specs.Calls.{Left, commanded}
 use Rattle.board.specs.Record.{isRegular, sessionOf, recordOf}
 
 -- "the board's pair", as C passes it
 abbrev pub pairOf : ℕ → ℕ → Pair

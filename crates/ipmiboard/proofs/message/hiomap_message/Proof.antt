@@ -1,4 +1,4 @@
--- `board::message::hiomap_message` meets its contract: a walk of its MIR, by hand. Each borrow of a record is opened, the record is copied out whole and goes to `serve_message` by value, with the slices, which are given up for good; what the answer has for it is stored back whole, and the borrow is closed there.
+-- `ipmiboard::message::hiomap_message` meets its contract: a walk of its MIR, by hand. Each borrow of a record is opened, the record is copied out whole and goes to `serve_message` by value, with the slices, which are given up for good; what the answer has for it is stored back whole, and the borrow is closed there.
 -- No field of a lent record is named, and no definition of the contract is opened. Written by tools/entry.py.
 -- Assumes nothing.
 use mathlib.Core.Path.{_≡_, refl, _∙_, ap}
@@ -44,25 +44,25 @@ use denote.Triple.Clauses.{ensured, lasts}
 use denote.Triple.Table.{entered, cited}
 use denote.Triple.Walked.{says, needs, Stays, stay-ref, stay-dropped, gave-slice, walkOf, AllGo, goes-ref, goes-dropped, goes-gave-slice, Walks, ends-at, walked, walk-meets}
 use denote.Exit.{yes}
 use Rattle.board.specs.Calls.{board}
-use Rattle.board.specs.Messages.{pairOf, tellsMessage, messagedRecord}
+use Rattle.ipmiboard.specs.Messages.{pairOf, tellsMessage, messagedRecord}
 use Rattle.board.specs.declared.Record.{Record}
 use Rattle.board.proofs.Record as Record-t
 use Rattle.board.proofs.Record.Laws as Record-l
-use Rattle.board.specs.declared.message.ServedMessage.{ServedMessage}
-use Rattle.board.proofs.message.ServedMessage as ServedMessage-t
-use Rattle.board.proofs.message.ServedMessage.Laws as ServedMessage-l
-use Rattle.board.specs.declared.MessageReply.{MessageReply}
-use Rattle.board.proofs.MessageReply as MessageReply-t
-use Rattle.board.proofs.MessageReply.Laws as MessageReply-l
-use Rattle.board.proofs.message.serve_message as callee
-use Rattle.board.proofs.message.serve_message.Symbol as callee-def
-use Rattle.board.proofs.message.serve_message.Symbol.{name as #callee}
-use Rattle.board.proofs.message.serve_message.Met as callee-thm
-use Rattle.board.proofs.message.hiomap_message.Key.{name as #entry}
-use Rattle.board.proofs.message.hiomap_message as entry
-use Rattle.board.proofs.message.hiomap_message.Statement as stated
-use Rattle.board.proofs.message.hiomap_message.Code as code
+use Rattle.ipmiboard.specs.declared.message.ServedMessage.{ServedMessage}
+use Rattle.ipmiboard.proofs.message.ServedMessage as ServedMessage-t
+use Rattle.ipmiboard.proofs.message.ServedMessage.Laws as ServedMessage-l
+use Rattle.ipmiboard.specs.declared.MessageReply.{MessageReply}
+use Rattle.ipmiboard.proofs.MessageReply as MessageReply-t
+use Rattle.ipmiboard.proofs.MessageReply.Laws as MessageReply-l
+use Rattle.ipmiboard.proofs.message.serve_message as callee
+use Rattle.ipmiboard.proofs.message.serve_message.Symbol as callee-def
+use Rattle.ipmiboard.proofs.message.serve_message.Symbol.{name as #callee}
+use Rattle.ipmiboard.proofs.message.serve_message.Met as callee-thm
+use Rattle.ipmiboard.proofs.message.hiomap_message.Key.{name as #entry}
+use Rattle.ipmiboard.proofs.message.hiomap_message as entry
+use Rattle.ipmiboard.proofs.message.hiomap_message.Statement as stated
+use Rattle.ipmiboard.proofs.message.hiomap_message.Code as code
 
 -- at exit each borrow of a record is still owned, nothing is had of what is plain, and each `&mut` slice was given up for good
 abbrev stayed : Stays (entry.ended .signature .params) (entry.ended .kept)
@@ -196,4 +196,4 @@ hiomap-message-spec 𝓤 H 𝓜 𝓖 𝓡 =
     entered 𝓤 H (tripleOf 𝓤 H (𝓖 .A) entry.signature (entry.spec 𝓤 H (𝓖 .A) (𝓜 .mem) (𝓡 .run)))
     (tables 𝓤 H 𝓜 𝓡 code.env .C) (tables 𝓤 H 𝓜 𝓡 code.env .Λ) #entry code.function (code.unfolded 𝓤 H 𝓜 𝓡)
     (hiomap-message-meets 𝓤 H (𝓖 .A) (givenOf 𝓤 H 𝓜 𝓖) (𝓜 .mem) (𝓡 .run) (tablesOf 𝓤 H 𝓜 (tables 𝓤 H 𝓜 𝓡 code.env))
-    (cited 𝓤 H (Callee 𝓤 H (𝓖 .A) (𝓜 .mem) (𝓡 .run)) 𝓜 𝓡 code.env #callee callee-def.routine code.calls-board·message·serve-message (callee-thm.met 𝓤 H 𝓜 𝓖 𝓡)))
+    (cited 𝓤 H (Callee 𝓤 H (𝓖 .A) (𝓜 .mem) (𝓡 .run)) 𝓜 𝓡 code.env #callee callee-def.routine code.calls-ipmiboard·message·serve-message (callee-thm.met 𝓤 H 𝓜 𝓖 𝓡)))

@@ -1,13 +1,13 @@
--- `board::message::serve_message` meets its contract.
+-- `ipmiboard::message::serve_message` meets its contract.
 use mathlib.Core.Path.{ap, _∙_}
 use borrow.Author.Needs.{needs}
 use Rattle.messages.specs.declared.Response.{Response}
-use Rattle.board.specs.declared.message.ServedMessage.{ServedMessage}
+use Rattle.ipmiboard.specs.declared.message.ServedMessage.{ServedMessage}
 use Rattle.board.specs.Calls.{board}
-use Rattle.board.specs.Messages.{pairOf, replyOf, tellsMessage}
-use Rattle.board.proofs.Messaging.{messaged-command, messaged-refused}
-use Rattle.board.proofs.message.serve_message.Statement.{statement}
-use Rattle.board.proofs.message.serve_message.Tie as tie
+use Rattle.ipmiboard.specs.Messages.{pairOf, replyOf, tellsMessage}
+use Rattle.ipmiboard.proofs.Messaging.{messaged-command, messaged-refused}
+use Rattle.ipmiboard.proofs.message.serve_message.Statement.{statement}
+use Rattle.ipmiboard.proofs.message.serve_message.Tie as tie
 
 open-message-requires : tie.Need-open-message-requires
 open-message-requires c κs = search needs

@@ -1,12 +1,12 @@
--- `board::message::serve_command` meets its contract.
+-- `ipmiboard::message::serve_command` meets its contract.
 use mathlib.Core.Path.{ap, _∙_}
 use borrow.Author.Needs.{needs}
 use Rattle.messages.specs.declared.Response.{Response}
-use Rattle.board.specs.declared.message.ServedMessage.{ServedMessage}
+use Rattle.ipmiboard.specs.declared.message.ServedMessage.{ServedMessage}
 use Rattle.board.specs.Calls.{Left}
-use Rattle.board.specs.Messages.{replyOf, tellsMessage, mediatedRecord}
-use Rattle.board.proofs.message.serve_command.Statement.{statement}
-use Rattle.board.proofs.message.serve_command.Tie as tie
+use Rattle.ipmiboard.specs.Messages.{replyOf, tellsMessage, mediatedRecord}
+use Rattle.ipmiboard.proofs.message.serve_command.Statement.{statement}
+use Rattle.ipmiboard.proofs.message.serve_command.Tie as tie
 
 serve-requires : tie.Need-serve-requires
 serve-requires c κs = search needs

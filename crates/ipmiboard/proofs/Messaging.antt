@@ -15,12 +15,12 @@ use Rattle.messages.specs.declared.Taken.the-variants.{Short, Foreign, Malforme
 use Rattle.messages.specs.Messages.{takenAs, registersOf, registersFor, refusal, opened, laid}
 use Rattle.mailbox.specs.Mediator.{mediate}
 use Rattle.ipmi.specs.Served.{Served, servedAs, served}
 use Rattle.board.specs.declared.Record.{Record}
 use Rattle.board.specs.Calls.{commanded}
-use Rattle.board.specs.Messages.{Messaged, untouchedRecord, mediatedRecord, messagedAs, messagedRecord, replyOf, MessageFollows}
+use Rattle.ipmiboard.specs.Messages.{Messaged, untouchedRecord, mediatedRecord, messagedAs, messagedRecord, replyOf, MessageFollows}
 use Rattle.board.specs.Record.{isRegular, sessionOf, recordOf}
 use Rattle.board.proofs.Answers.{nothing-lost}
 use Rattle.board.proofs.Regular.{of-session}
 
 -- by what became of it
 messaged-as : (setup : Setup) (pair : Pair) (message : List ℕ) (h : Record) (flash memory : List ℕ) (t : Taken) → t ≡ takenAs pair (h .version) message
