@@ -46,8 +46,8 @@ abbrev pub holdAll : List Example → Bool
 holdAll [] = true
 holdAll (e ∷ rest) = holds (e .lines) (lent (e .session) (replicate 16384 0xff) (replicate 8192 0x00)) && holdAll rest
 
--- how the lines are written: a message with its response, and one that takes chip actions
 infix 60 _gets_
+-- how the lines are written: a message with its response, and one that takes chip actions
 abbrev pub _gets_ : List ℕ → List ℕ → Line
 message gets response = record { message = message; response = response; actions = 0 }
 
