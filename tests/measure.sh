@@ -3,6 +3,7 @@
 set -euo pipefail
 cd "$(dirname "$0")/.."
 bash tests/staticlib.sh board
+bash tests/staticlib.sh ipmiboard
 bash tests/staticlib.sh kcsboard
 cargo build --release --offline --quiet --manifest-path tests/compare/Cargo.toml --target-dir target/cargo
 target/cargo/release/measure

@@ -1,3 +1,4 @@
+pub mod Answered
 pub mod Demand
 pub mod Examples
 pub mod Kcs

@@ -1,10 +1,13 @@
 //! The proved libraries as Rust sees them: the C boundary of the crate `board`, wrapped in safe functions, and in `kcs` that of `kcsboard`.
 
 pub mod kcs;
+pub mod messages;
 pub mod pair;
 pub mod program;
 pub mod twin;
 
+/// The network function, without a LUN, and the command that a board reserves for hiomap.
+pub use second::messages::Pair as BoardPair;
 use second::{Kind, Session};
 
 /// C's record. Yes and no are numbers here, so that a byte that is neither 0 nor 1 has a meaning.
@@ -33,7 +36,7 @@ impl Record {
 }
 
 #[repr(C)]
-struct Bytes {
+pub struct Bytes {
     data: *mut u8,
     len: usize,
 }
@@ -49,6 +52,21 @@ pub struct ListReply {
     pub code: u8,
     pub named: u8,
     pub place: u8,
+}
+
+/// What a message gives back: the response in its first `length` bytes.
+#[repr(C)]
+#[derive(Clone, Copy, Debug, PartialEq)]
+pub struct MessageReply {
+    pub response: [u8; 16],
+    pub length: u32,
+    pub actions: u32,
+}
+
+impl MessageReply {
+    pub fn bytes(&self) -> &[u8] {
+        &self.response[..self.length as usize]
+    }
 }
 
 #[repr(C)]
@@ -74,6 +92,16 @@ pub struct Work {
 extern "C" {
     pub fn hiomap_fresh() -> Record;
     fn hiomap_command(record: *mut Record, registers: *mut [u8; 16], lpc: u16, timeout: u16, flash: Bytes, memory: Bytes) -> u32;
+    pub fn hiomap_message(
+        record: *mut Record,
+        netfn: u8,
+        command: u8,
+        message: Bytes,
+        lpc: u16,
+        timeout: u16,
+        flash: Bytes,
+        memory: Bytes,
+    ) -> MessageReply;
     fn hiomap_mark_list(record: *mut Record, list: Numbers, lpc: u16, timeout: u16, flash: usize, memory: usize) -> ListReply;
     pub fn hiomap_suspend(record: Record) -> Suspended;
     pub fn hiomap_resume(record: Record) -> Suspended;
@@ -82,8 +110,13 @@ extern "C" {
     pub fn hiomap_pending(record: Record) -> Work;
 }
 
-fn bytes(part: &mut [u8]) -> Bytes {
+pub fn bytes(part: &mut [u8]) -> Bytes {
     Bytes { data: part.as_mut_ptr(), len: part.len() }
+}
+
+/// Bytes that a call only reads.
+pub fn const_bytes(part: &[u8]) -> Bytes {
+    Bytes { data: part.as_ptr().cast_mut(), len: part.len() }
 }
 
 /// A bool byte of C.
@@ -99,6 +132,15 @@ pub fn fresh() -> Record {
 
 pub fn command(record: &mut Record, registers: &mut [u8; 16], lpc: u16, timeout: u16, flash: &mut [u8], memory: &mut [u8]) -> u32 {
     unsafe { hiomap_command(record, registers, lpc, timeout, bytes(flash), bytes(memory)) }
+}
+
+/// The response ends within its bytes, and nothing but 0 stands behind it.
+pub fn message(record: &mut Record, board: BoardPair, message: &[u8], lpc: u16, timeout: u16, flash: &mut [u8], memory: &mut [u8]) -> MessageReply {
+    let BoardPair { network_function, command } = board;
+    let reply = unsafe { hiomap_message(record, network_function, command, const_bytes(message), lpc, timeout, bytes(flash), bytes(memory)) };
+    let behind = reply.response.get(reply.length as usize..);
+    assert!(behind.is_some_and(|behind| behind.iter().all(|byte| *byte == 0)), "bytes behind the response are not 0: {reply:02X?}");
+    reply
 }
 
 /// The code, and the place of the first bad pair where one is named. Only the lengths of both buffers are handed over.

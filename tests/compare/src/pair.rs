@@ -1,7 +1,7 @@
 //! Both implementations side by side: the same record, flash and window memory, and every call made on both and compared. After each, both are
 //! asked how much is pending.
 
-use crate::{twin, Record};
+use crate::{twin, BoardPair, Record};
 use std::fmt::{Arguments, Debug};
 use std::hint::black_box;
 
@@ -84,6 +84,34 @@ impl Pair {
         let mut after = registers;
         let theirs = twin::command(&mut self.record[1], &mut after, self.lpc, self.timeout, self.flash[1].part(), self.memory[1].part());
         self.same(format_args!("command {registers:02X?}"), (lent.registers, ours), (after, theirs))
+    }
+
+    /// The message too stands between guards, and must stay.
+    pub fn message(&mut self, board: BoardPair, message: &[u8]) -> Result<(), String> {
+        let mut lent = Buffer::new(message);
+        let lent = black_box(&mut lent);
+        self.message_of(board, lent.part())?;
+        if *black_box(lent) != Buffer::new(message) {
+            return Err(format!("message {message:02X?}: it changed, or bytes around it"));
+        }
+        Ok(())
+    }
+
+    /// With a message of any length, as it stands.
+    pub fn message_of(&mut self, board: BoardPair, message: &[u8]) -> Result<(), String> {
+        let mut lent = Lent::new(self.record[0], [GUARD; 16]);
+        let lent = black_box(&mut lent);
+        let ours = crate::message(&mut lent.record, board, message, self.lpc, self.timeout, self.flash[0].part(), self.memory[0].part());
+        let lent = black_box(lent);
+        let front = &message[..message.len().min(70)];
+        if !lent.is_guarded() || lent.registers != [GUARD; 16] {
+            return Err(format!("message {front:02X?}: bytes around the record changed"));
+        }
+        self.record[0] = lent.record;
+        let theirs = twin::message(&mut self.record[1], board, message, self.lpc, self.timeout, self.flash[1].part(), self.memory[1].part());
+        let (network_function, command) = (board.network_function, board.command);
+        let what = format_args!("message of {} bytes, {front:02X?}, to {network_function:02X} {command:02X}", message.len());
+        self.same(what, (ours.bytes(), ours.actions), (&theirs.0[..], theirs.1))
     }
 
     pub fn mark_list(&mut self, list: &[u16]) -> Result<(), String> {

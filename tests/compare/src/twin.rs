@@ -1,7 +1,7 @@
 //! The second implementation behind C's record. It knows sessions only: what include/hiomap.h says of records that stand for none is here.
 
-use crate::{record_of, session_of, Record};
-use second::Session;
+use crate::{record_of, session_of, BoardPair, Record};
+use second::{messages, Session};
 
 /// A number that is no window's, or a yes or no that is neither 0 nor 1, stands for no session.
 fn stands_for_a_session(record: &Record) -> bool {
@@ -20,6 +20,24 @@ pub fn command(record: &mut Record, registers: &mut [u8; 16], lpc: u16, timeout:
     *registers = after;
     *record = record_of(&session, record.previous);
     actions
+}
+
+/// The response's bytes, and the number of chip actions. A record that stands for no session is answered as its version has it, and the command
+/// of a message that is taken with SYSTEM_ERROR.
+pub fn message(record: &mut Record, board: BoardPair, message: &[u8], lpc: u16, timeout: u16, flash: &mut [u8], memory: &mut [u8]) -> (Vec<u8>, u32) {
+    if !stands_for_a_session(record) {
+        return match messages::transport(record.version, board, message) {
+            Err(refusal) => (refusal, 0),
+            Ok(mut registers) => {
+                let actions = command(record, &mut registers, lpc, timeout, flash, memory);
+                (messages::pack(message, record.version, &registers), actions)
+            }
+        };
+    }
+    let mut session = session_of(record);
+    let answer = messages::message(&mut session, board, lpc, timeout, message, flash, memory);
+    *record = record_of(&session, record.previous);
+    answer
 }
 
 pub fn mark_list(record: &mut Record, list: &[u16], lpc: u16, flash: usize, memory: usize) -> (u8, Option<usize>) {

@@ -5,7 +5,7 @@
 
 use compare::kcs::{self, accesses, make, Port};
 use compare::pair::{Access, Pair};
-use compare::{program, twin, ListReply, Record, Suspended, Work};
+use compare::{bytes, const_bytes, messages, program, twin, BoardPair, Bytes, ListReply, MessageReply, Record, Suspended, Work};
 use std::fs::File;
 use std::mem::{offset_of, size_of, transmute, MaybeUninit};
 
@@ -19,6 +19,8 @@ const _: () = assert!(offset_of!(Record, erased) == ERASED && offset_of!(Record,
 const _: () = assert!(offset_of!(Suspended, record) == 2 && size_of::<Suspended>() == SUSPENDED_ANSWER);
 const _: () = assert!(offset_of!(Work, blocks) == 4 && offset_of!(Work, actions) == 8 && size_of::<Work>() == 12);
 const _: () = assert!(offset_of!(ListReply, named) == 1 && offset_of!(ListReply, place) == 2 && size_of::<ListReply>() == 3);
+const _: () = assert!(offset_of!(MessageReply, response) == 0 && offset_of!(MessageReply, length) == 16);
+const _: () = assert!(offset_of!(MessageReply, actions) == 20 && size_of::<MessageReply>() == MESSAGE_ANSWER);
 /// And a KCS port as include/kcs.h has it.
 const _: () = assert!(offset_of!(kcs::Record, phase) == 0 && offset_of!(kcs::Record, command) == 1 && offset_of!(kcs::Record, full) == 2);
 const _: () = assert!(offset_of!(kcs::Record, output) == 3 && offset_of!(kcs::Record, fault) == 4 && offset_of!(kcs::Record, length) == 5);
@@ -31,7 +33,11 @@ const ERASED: usize = 11;
 const MARKS: usize = 12;
 const RECORD: usize = 76;
 const SUSPENDED_ANSWER: usize = 78;
+const MESSAGE_ANSWER: usize = 24;
 const PORT: usize = 136;
+
+/// Each of its two numbers has bits that the other has not.
+const BOARD: BoardPair = BoardPair { network_function: 0x3a, command: 0x5c };
 
 /// Every page of 15 blocks has a byte of its own, and none is FF.
 fn pattern(length: usize, base: usize) -> Vec<u8> {
@@ -62,6 +68,12 @@ fn registers(code: u8, sequence: u8, arguments: &[u8]) -> [u8; 16] {
     registers
 }
 
+/// A command by mailbox and as a message of the length that the version has for it, each on a copy of the pair.
+fn both_ways(pair: &Pair, registers: [u8; 16]) -> Result<(), String> {
+    pair.clone().command(registers)?;
+    pair.clone().message(BOARD, &messages::of_registers(BOARD, pair.record[0].version, &registers))
+}
+
 /// Each call by itself on a copy of the pair.
 fn every_call(pair: &Pair) -> Result<(), String> {
     let commands: [(u8, &[u8]); 12] = [
@@ -69,11 +81,15 @@ fn every_call(pair: &Pair) -> Result<(), String> {
         (10, &[1, 0, 1]),
     ];
     for (code, arguments) in commands {
-        pair.clone().command(registers(code, 5, arguments))?;
+        both_ways(pair, registers(code, 5, arguments))?;
+    }
+    // too short, of another pair, and of a wrong length
+    for refused in [&[0xe8][..], &[0xec, 0x5c, 2, 5, 2], &[0xe8, 0x5c, 2, 5, 2, 0]] {
+        pair.clone().message(BOARD, refused)?;
     }
     // the previous number again
-    pair.clone().command(registers(8, 9, &[]))?;
-    pair.clone().command(registers(2, 9, &[1]))?;
+    both_ways(pair, registers(8, 9, &[]))?;
+    both_ways(pair, registers(2, 9, &[1]))?;
     pair.clone().command(registers(9, 8, &[0xff]))?;
     for done in [0, 1, 17] {
         pair.clone().step(done)?;
@@ -142,7 +158,8 @@ fn lpc_and_timeout() -> Result<(), String> {
                 let mut pair = Pair::new(record(version, 0), &pattern(3 * BLOCK, 10), &pattern(c * BLOCK, 90), lpc, timeout);
                 for (code, argument) in [(2, 1), (4, 1), (6, 0), (2, 2), (4, 1), (6, 2)] {
                     pair.record.iter_mut().for_each(|record| record.numbered = 0);
-                    pair.command(registers(code, 5, &[argument])).map_err(|e| format!("lpc {lpc}, timeout {timeout}, {c} window blocks: {e}"))?;
+                    both_ways(&pair, registers(code, 5, &[argument])).map_err(|e| format!("lpc {lpc}, timeout {timeout}, {c} window blocks: {e}"))?;
+                    pair.command(registers(code, 5, &[argument]))?;
                 }
                 pair.mark_list(&[0, 1]).map_err(|e| format!("lpc {lpc}, timeout {timeout}, {c} window blocks: {e}"))?;
             }
@@ -192,10 +209,12 @@ struct Zeros {
 
 extern "C" {
     fn mmap(start: *mut u8, length: usize, protection: i32, flags: i32, file: i32, offset: i64) -> *mut u8;
+    fn mprotect(start: *mut u8, length: usize, protection: i32) -> i32;
     fn munmap(start: *mut u8, length: usize) -> i32;
 }
 
 const READ_ONLY: i32 = 1;
+const READ_WRITE: i32 = 3;
 const PRIVATE_ANONYMOUS_NORESERVE: i32 = 0x4022;
 
 impl Zeros {
@@ -203,6 +222,16 @@ impl Zeros {
         let start = unsafe { mmap(std::ptr::null_mut(), length, READ_ONLY, PRIVATE_ANONYMOUS_NORESERVE, -1, 0) };
         assert!(start as isize != -1, "{length} bytes of addresses: {}", std::io::Error::last_os_error());
         Zeros { start, length }
+    }
+
+    /// Other bytes at the front, which then can only be read as well.
+    fn put(&mut self, front: &[u8]) {
+        assert!(front.len() <= BLOCK && BLOCK <= self.length);
+        unsafe {
+            assert_eq!(mprotect(self.start, BLOCK, READ_WRITE), 0);
+            self.start.copy_from(front.as_ptr(), front.len());
+            assert_eq!(mprotect(self.start, BLOCK, READ_ONLY), 0);
+        }
     }
 
     /// Whoever writes there ends the program.
@@ -280,6 +309,15 @@ fn large(flash: &mut [u8], memory: &mut [u8]) -> Result<(), String> {
             return Err(format!("command {code}: {:02X?}, the second implementation {:02X?}", ours.1, theirs.1));
         }
     }
+    for code in [2, 3] {
+        let message = messages::of_registers(BOARD, 2, &registers(code, 5, &[1]));
+        let (mut held, mut their) = (record(2, 0), record(2, 0));
+        let ours = compare::message(&mut held, BOARD, &message, 16, 8, flash, memory);
+        let theirs = twin::message(&mut their, BOARD, &message, 16, 8, flash, memory);
+        if (held, ours.bytes(), ours.actions) != (their, &theirs.0[..], theirs.1) {
+            return Err(format!("message {message:02X?}: {ours:02X?}, the second implementation {theirs:02X?}"));
+        }
+    }
     // past the end of its flush
     let (record, done) = (record(2, 2), 100);
     let (ours, theirs) = (compare::step(&record, flash, memory, done), twin::step(&record, flash, memory, done));
@@ -312,6 +350,7 @@ fn far_window() -> Result<(), String> {
     let commands: [(u8, &[u8]); 8] =
         [(8, &[]), (3, &[]), (6, &[0x36, 0x12, 1]), (7, &[0, 0, 1]), (2, &[1]), (3, &[]), (7, &[0x36, 0x12, 1]), (5, &[])];
     for (sequence, (code, arguments)) in (1..).zip(commands) {
+        both_ways(&pair, registers(code, sequence, arguments))?;
         pair.command(registers(code, sequence, arguments))?;
     }
     Ok(())
@@ -321,8 +360,8 @@ fn far_window() -> Result<(), String> {
 fn most_actions() -> Result<(), String> {
     let full = Record { first: 1, size: 64, marks: [1; 64], ..record(2, 2) }.counted();
     let pair = Pair::new(full, &pattern(66 * BLOCK, 10), &pattern(64 * BLOCK, 90), 0xa1b2, 0xc3d4);
-    pair.clone().command(registers(8, 5, &[]))?;
-    pair.clone().command(registers(4, 5, &[66]))?;
+    both_ways(&pair, registers(8, 5, &[]))?;
+    both_ways(&pair, registers(4, 5, &[66]))?;
     [1086, 1087, 1088].into_iter().try_for_each(|done| pair.clone().step(done))
 }
 
@@ -360,6 +399,28 @@ fn answers() -> Result<(), String> {
         let call: Call = unsafe { transmute(call) };
         guarded(name, |place| unsafe { call(place, record(2, 2)) })?;
     }
+    message_answer()
+}
+
+/// The longest response that there is, and the empty one: what a message gives back ends where the header says.
+fn message_answer() -> Result<(), String> {
+    type Message = unsafe extern "C" fn(*mut Record, u8, u8, Bytes, u16, u16, Bytes, Bytes) -> MessageReply;
+    type Call = unsafe extern "C" fn(*mut [u8; MESSAGE_ANSWER], *mut Record, u8, u8, Bytes, u16, u16, Bytes, Bytes);
+    let call: Call = unsafe { transmute(compare::hiomap_message as Message) };
+    for message in [&[0xe8, 0x5c, 3, 5][..], &[]] {
+        let bytes = guarded("hiomap_message", |place| {
+            let (mut held, mut flash, mut memory) = (record(1, 0), [0; BLOCK], [0; BLOCK]);
+            unsafe { call(place, &mut held, 0x3a, 0x5c, const_bytes(message), 16, 8, bytes(&mut flash), bytes(&mut memory)) }
+        })?;
+        let mut expected = [0; MESSAGE_ANSWER];
+        if !message.is_empty() {
+            expected[..13].copy_from_slice(&[0xec, 0x5c, 0, 3, 5, 0, 0x10, 0, 0, 0, 0x10, 0, 0]);
+            expected[16] = 13;
+        }
+        if bytes != expected {
+            return Err(format!("hiomap_message on {message:02X?}: {bytes:02X?}"));
+        }
+    }
     Ok(())
 }
 
@@ -380,6 +441,73 @@ fn port() -> Result<(), String> {
         let mut port = awaiting;
         if port.respond(zeros.part((1 << shift) + more)) || port != awaiting {
             return Err(format!("a response of 2^{shift} and {more} bytes is taken, or changes the record"));
+        }
+    }
+    Ok(())
+}
+
+/// The board's pair: each of its numbers with every value, of messages whose first byte is the number's last six bits, the number itself or always
+/// the same, with every LUN.
+fn board_pairs() -> Result<(), String> {
+    let pair = pair(record(2, 2));
+    for value in 0..=255u8 {
+        for first in [value << 2, value, 0xe8] {
+            for lun in 0..4 {
+                let board = BoardPair { network_function: value, ..BOARD };
+                pair.clone().message(board, &[first & !3 | lun, 0x5c, 2, 5, 1])?;
+            }
+        }
+        let board = BoardPair { command: value, ..BOARD };
+        for second in [value, !value, value << 2, value >> 2, 0x5c] {
+            pair.clone().message(board, &[0xe9, second, 2, 5, 1])?;
+        }
+    }
+    Ok(())
+}
+
+/// Each byte of a message by itself, of each command, at each version and with each window: the first three of GET_INFO's with every value. Then
+/// every length up to 70, of the board's pair and of another.
+fn each_byte() -> Result<(), String> {
+    const SOME: [u8; 7] = [0, 1, 2, 0x10, 0x7f, 0x80, 0xff];
+    let all: Vec<u8> = (0..=255).collect();
+    for (version, window) in [0, 1, 2, 3, 255].into_iter().flat_map(|version| [0, 1, 2].map(|window| (version, window))) {
+        let pair = pair(record(version, window));
+        for code in 0..13 {
+            let right = messages::of_registers(BOARD, version, &registers(code, 5, &[1, 0, 1]));
+            for at in 0..right.len() {
+                let every = at < 3 && code == 2;
+                for value in if every { &all[..] } else { &SOME } {
+                    let mut sent = right.clone();
+                    sent[at] = *value;
+                    pair.clone().message(BOARD, &sent)?;
+                }
+            }
+            if window == 2 {
+                let own = [&right[..], &[0xff; 70]].concat();
+                let foreign = [&[0xec], &own[1..]].concat();
+                (0..=70).try_for_each(|length| {
+                    pair.clone().message(BOARD, &own[..length])?;
+                    pair.clone().message(BOARD, &foreign[..length])
+                })?;
+            }
+        }
+    }
+    Ok(())
+}
+
+/// Messages of whose length only the last bits are those of a good length, or of a short message: addresses that can only be read.
+fn long_messages() -> Result<(), String> {
+    let mut zeros = Zeros::new((1 << 43) + BLOCK);
+    for version in 0..3 {
+        let pair = pair(record(version, 0));
+        for code in 0..12 {
+            let right = messages::of_registers(BOARD, version, &registers(code, 5, &[1]));
+            for first in [0xe8, 0xec] {
+                zeros.put(&[&[first], &right[1..]].concat());
+                for (shift, more) in (8..44).flat_map(|shift| [0, 1, 2, 3, 4, right.len()].map(|more| (shift, more))) {
+                    pair.clone().message_of(BOARD, zeros.part((1 << shift) + more))?;
+                }
+            }
         }
     }
     Ok(())
@@ -443,7 +571,8 @@ fn bench(program: &str) -> Result<(), String> {
 
 fn main() {
     let program = std::env::var("BENCH").expect("BENCH names the bench program");
-    let sections: Vec<(&str, Box<dyn Fn() -> Result<(), String>>)> = vec![
+    type Section = Box<dyn Fn() -> Result<(), String>>;
+    let sections: Vec<(&str, Section)> = vec![
         ("answers", Box::new(answers)),
         ("fields", Box::new(fields)),
         ("lpc and timeout", Box::new(lpc_and_timeout)),
@@ -456,6 +585,9 @@ fn main() {
         ("wide answers", Box::new(wide_answers)),
         ("pending", Box::new(pending)),
         ("lists", Box::new(lists)),
+        ("board's pair", Box::new(board_pairs)),
+        ("messages", Box::new(each_byte)),
+        ("long messages", Box::new(long_messages)),
         ("KCS port", Box::new(port)),
         ("bench", Box::new(move || bench(&program))),
     ];

@@ -3,7 +3,7 @@
 //! compare [SEED [ROUNDS]]: one seed, or many; the line that a difference prints runs it again.
 
 use compare::pair::{Access, Pair};
-use compare::{program, session_of, twin, Random, Record};
+use compare::{messages, program, session_of, twin, BoardPair, Random, Record};
 
 const BLOCK: usize = 4096;
 const CONTROL_LOST: u8 = 0x40;
@@ -58,7 +58,10 @@ fn random_record(r: &mut Random, s: u64, c: u64) -> Record {
 /// A record that no command would leave.
 fn spoil(r: &mut Random, record: &mut Record) {
     match r.below(10) {
-        0 => record.version = r.next() as u8,
+        0 => {
+            let any = r.next() as u8;
+            record.version = r.one_of(&[3, 255, any]);
+        }
         1 => record.first = r.next() as u16,
         2 => record.size = r.next() as u16,
         3 => {
@@ -90,11 +93,11 @@ fn near(r: &mut Random, number: u8) -> u8 {
     r.one_of(&[number.wrapping_add(1), number.wrapping_sub(1), any])
 }
 
-fn registers(r: &mut Random, previous: u8) -> [u8; 16] {
+fn registers(r: &mut Random, record: &Record) -> [u8; 16] {
     let mut registers = [0; 16];
     r.fill(&mut registers);
     registers[0] = if r.once_in(20) { r.next() as u8 } else { r.below(12) as u8 };
-    registers[1] = if r.once_in(16) { previous } else { r.below(5) as u8 };
+    registers[1] = if r.once_in(16) { record.previous } else { r.below(5) as u8 };
     for i in (2..13).step_by(2) {
         match r.below(6) {
             0 => {}
@@ -111,7 +114,26 @@ fn registers(r: &mut Random, previous: u8) -> [u8; 16] {
         // flags of CLOSE_WINDOW: those that are defined, and the first that are not
         registers[2] = r.below(4) as u8;
     }
+    if [7, 8, 10].contains(&registers[0]) && r.once_in(2) {
+        registers[2..8].copy_from_slice(&inside(r, record));
+    }
     registers
+}
+
+/// A range in the window for MARK_DIRTY, FLUSH and ERASE: a flash block and bytes at version 1, else a window block and blocks.
+fn inside(r: &mut Random, record: &Record) -> [u8; 6] {
+    let block = r.below(u64::from(record.size) + 1) as u16;
+    let count = r.below(u64::from(record.size - block) + 1) as u16;
+    let mut range = [0; 6];
+    if record.version == 1 {
+        let length = (u32::from(count) * 4096).saturating_sub(r.below(2) as u32);
+        range[..2].copy_from_slice(&record.first.wrapping_add(block).to_le_bytes());
+        range[2..].copy_from_slice(&length.to_le_bytes());
+    } else {
+        range[..2].copy_from_slice(&block.to_le_bytes());
+        range[2..4].copy_from_slice(&count.to_le_bytes());
+    }
+    range
 }
 
 /// A number of actions done that is none the step before left: within a flush, at its end, or a multiple of a power of two above one.
@@ -146,12 +168,59 @@ fn pairs(r: &mut Random, size: u16) -> Vec<u16> {
     list
 }
 
+/// A board's pair, now and then with a network function that no message meets.
+fn random_board(r: &mut Random) -> BoardPair {
+    let network_function = if r.once_in(20) { r.next() as u8 } else { r.below(64) as u8 };
+    BoardPair { network_function, command: r.next() as u8 }
+}
+
+/// A message: mostly to the board's pair and of the length that the version has for its command, now and then with a bit of the pair changed, of
+/// about that length or of any.
+fn message(r: &mut Random, board: BoardPair, record: &Record) -> Vec<u8> {
+    let mut sent = [0; 70];
+    r.fill(&mut sent);
+    sent[0] = board.network_function << 2 | r.below(4) as u8;
+    sent[1] = board.command;
+    sent[2..15].copy_from_slice(&registers(r, record)[..13]);
+    if r.once_in(12) {
+        sent[2] = 12;
+    }
+    if r.once_in(8) {
+        sent[r.below(2) as usize] ^= 1 << r.below(8);
+    }
+    let any = r.below(71) as usize;
+    let right = messages::asked(record.version, sent[2]).map_or(any, |count| 4 + count);
+    let length = r.one_of(&[right, right, right, right, right, right.saturating_sub(1), right + 1, any]);
+    sent[..length.min(70)].to_vec()
+}
+
+/// A command of the proved library by mailbox and by message, from the same state: the same record, flash, window memory and number of actions,
+/// and the answer that the table of parameters makes of the registers.
+fn both_ways(r: &mut Random, pair: &Pair, board: BoardPair) -> Result<(), String> {
+    let board = BoardPair { network_function: board.network_function % 64, ..board };
+    let sent = registers(r, &pair.record[0]);
+    let mut message = messages::of_registers(board, pair.record[0].version, &sent);
+    message[0] |= r.below(4) as u8;
+    let (mut mailbox, mut messaged, mut after) = (pair.clone(), pair.clone(), sent);
+    let actions = compare::command(&mut mailbox.record[0], &mut after, pair.lpc, pair.timeout, mailbox.flash[0].part(), mailbox.memory[0].part());
+    let reply =
+        compare::message(&mut messaged.record[0], board, &message, pair.lpc, pair.timeout, messaged.flash[0].part(), messaged.memory[0].part());
+    if (mailbox.record[0], &mailbox.flash[0], &mailbox.memory[0]) != (messaged.record[0], &messaged.flash[0], &messaged.memory[0]) {
+        return Err(format!("command {sent:02X?} and message {message:02X?} leave different records, flash or window memory"));
+    }
+    let expected = messages::response_of(&message, mailbox.record[0].version, &after);
+    if (reply.bytes(), reply.actions) != (&expected[..], actions) {
+        return Err(format!("message {message:02X?} is answered {reply:02X?}, the command {after:02X?} with {actions} actions: {expected:02X?}"));
+    }
+    Ok(())
+}
+
 /// A list of calls, the same on both sides.
 fn calls(r: &mut Random) -> Result<(), String> {
-    let mut pair = random_pair(r);
+    let (mut pair, board) = (random_pair(r), random_board(r));
     let mut done = 0;
     for _ in 0..40 {
-        match r.below(14) {
+        match r.below(18) {
             0 => pair.access(r.one_of(&[Access::Suspend, Access::Resume, Access::ResumeChanged]))?,
             1 => host_write(r, &mut pair),
             2 | 3 => {
@@ -162,7 +231,12 @@ fn calls(r: &mut Random) -> Result<(), String> {
                 let list = pairs(r, pair.record[0].size);
                 pair.mark_list(&list)?;
             }
-            _ => pair.command(registers(r, pair.record[0].previous))?,
+            6..=9 => {
+                let sent = message(r, board, &pair.record[0]);
+                pair.message(board, &sent)?;
+            }
+            10 => both_ways(r, &pair, board)?,
+            _ => pair.command(registers(r, &pair.record[0]))?,
         }
     }
     Ok(())

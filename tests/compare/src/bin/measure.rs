@@ -1,12 +1,13 @@
 //! Measures the proved libraries in one run beside the machine's own limits and the second implementation, as times and their ratio.
 
 use compare::kcs::{accesses, make, Port, Second, MOST};
-use compare::{kcs, record_of, session_of, Record};
+use compare::{kcs, messages, record_of, session_of, BoardPair, Record};
 use second::{Kind, Session};
 use std::hint::black_box;
 use std::time::Instant;
 
 const BLOCK: usize = 4096;
+const BOARD: BoardPair = BoardPair { network_function: 0x3a, command: 0x5c };
 
 /// What the measured calls work on.
 struct Room {
@@ -158,6 +159,44 @@ fn against_single_commands(room: &mut Room) {
     }
 }
 
+/// One message to the proved library on a copy of a record: the length of its response is this.
+fn our_message(record: &Record, message: &[u8], room: &mut Room, length: usize) {
+    let mut record = *record;
+    let reply = compare::message(&mut record, BOARD, black_box(message), 16, 8, &mut room.flash, &mut room.memory);
+    assert_eq!(reply.bytes().len(), length);
+    black_box((record.events, reply));
+}
+
+fn their_message(session: &Session, message: &[u8], room: &mut Room, length: usize) {
+    let mut session = session.clone();
+    let (response, _) = second::messages::message(&mut session, BOARD, 16, 8, black_box(message), &mut room.flash, &mut room.memory);
+    assert_eq!(response.len(), length);
+    black_box((session.events, response));
+}
+
+/// Messages, against the second implementation, and those that hold a command against the same command by mailbox.
+fn messages_against_both(room: &mut Room) {
+    let clean = write_window(0, 64, 0);
+    let record = record_of(&clean, 0);
+    let (info, mark) = (request(2, 2, 0), request(7, 1, 1));
+    let [get_info, mark_dirty] = [info, mark].map(|registers| messages::of_registers(BOARD, 2, &registers));
+    let long = [&mark_dirty[..], &[0]].concat();
+    for (what, message, length) in [
+        ("message: GET_INFO", &get_info[..], 9),
+        ("message: MARK_DIRTY of one block", &mark_dirty, 5),
+        ("message: of another pair", &[0xec, 0x5c, 8, 1], 3),
+        ("message: of a wrong length", &long, 3),
+        ("message: one byte", &[0xe8], 0),
+    ] {
+        let both = least(200, 20_000, room, |room| our_message(&record, message, room, length), |room| their_message(&clean, message, room, length));
+        line(what, "the second implementation", &[both], 1.0);
+    }
+    for (what, message, length, registers) in [("GET_INFO", &get_info, 9, info), ("MARK_DIRTY of one block", &mark_dirty, 5, mark)] {
+        let both = least(200, 20_000, room, |room| our_message(&record, message, room, length), |room| ours(&record, registers, room, 64 * BLOCK));
+        line(&format!("message: {what}"), "the same command by mailbox", &[both], 2.0);
+    }
+}
+
 /// How much is pending, against one look at the marks: both are handed the record by value.
 fn against_a_look(room: &mut Room) {
     let full = record_of(&write_window(0, 64, 1), 0);
@@ -277,6 +316,7 @@ fn main() {
     against_the_machine(&mut rooms, &closed);
     against_the_second(&mut rooms[0]);
     against_single_commands(&mut rooms[0]);
+    messages_against_both(&mut rooms[0]);
     against_a_look(&mut rooms[0]);
     against_a_small_chip(&closed);
     against_the_second_port();
