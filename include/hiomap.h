@@ -1,7 +1,7 @@
 /*
- * The hiomap mediator for C: what crates/board and crates/ipmiboard export. Build the archives with `rt staticlib board`
- * and, for hiomap_message, `rt staticlib ipmiboard`, and link target/staticlib/libboard.a and libipmiboard.a (x86-64
- * Linux).
+ * The hiomap mediator for C: what crates/board and crates/ipmiboard export. Build the archives with `rt staticlib
+ * board` and, for hiomap_message, `rt staticlib ipmiboard`, and link target/staticlib/libboard.a and libipmiboard.a
+ * (x86-64 Linux).
  *
  * Ownership. The caller owns everything: the record of the session, the registers, a message, the flash image, the
  * window memory and a list of marks. A call borrows what it is given and keeps nothing of it when it returns; there is
@@ -251,9 +251,10 @@ uint32_t hiomap_command(hiomap_record *record, uint8_t (*registers)[HIOMAP_REGIS
  *   lpc, timeout, flash, memory  as hiomap_command has them
  * The first of these that holds refuses it, and nothing of the record and the buffers changes: under two bytes, the
  * empty response; another network function or command than the board's, C1; under four bytes, or a wrong number of
- * parameters for a command that the record's version knows, C7; both in three bytes. The LUN is not looked at. What
- * comes next is the mediator's: a record that is not sound is HIOMAP_FAILED + 4. A command that the version does not
- * know is served whatever the number of its parameters, those past the eleventh dropped; a version above 2 knows none.
+ * parameter bytes for a command that the record's version knows, C7; both in three bytes. The LUN is not looked at.
+ * What comes next is the mediator's: a record that is not sound is HIOMAP_FAILED + 4. A command that the version does
+ * not know is handed to it with any number of parameter bytes, those past the eleventh dropped; a version above 2 knows
+ * none. The response has the parameters of the version after the command: of GET_INFO those of the version just agreed.
  * No response has the event byte: docs/INTEGRATION.md says what a board does about it. It is in libipmiboard.a.
  */
 hiomap_message_reply hiomap_message(hiomap_record *record, uint8_t netfn, uint8_t command, hiomap_const_bytes message,

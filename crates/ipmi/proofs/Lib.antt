@@ -1,1 +1,3 @@
+pub mod Few
 pub mod Serving
+pub mod Told

@@ -1,6 +1,7 @@
 -- What a message leaves, for every message, session and buffer: document 02, Ticket 6.
-use Prim.Native.Nat.{ℕ}
+use Prim.Native.Nat.{ℕ, _≤_}
 use mathlib.Core.List.{List}
+use lib.ListN.{length}
 use Rattle.session.specs.Machine.{Setup, Machine}
 use Rattle.messages.specs.declared.Pair.{Pair}
 use Rattle.messages.specs.declared.Taken.{Taken}
@@ -34,3 +35,7 @@ servedAs Command setup message m = mediated message (mediate setup (registersOf 
 
 unfoldable pub served : Setup → Pair → List ℕ → Machine → Served
 served setup pair message m = servedAs (takenAs pair (m .session .version) message) setup message m
+
+-- no response has more than 16 bytes. Proved in proofs/Few.antt
+abbrev pub FewBytes : Type 0
+FewBytes = (setup : Setup) (pair : Pair) (message : List ℕ) (m : Machine) → length (served setup pair message m .response) ≤ 16

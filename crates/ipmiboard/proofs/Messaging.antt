@@ -1,8 +1,11 @@
 -- What a message leaves of a record, by what the code was told of it, and beside the session that the record stands for: specs/Messages.antt.
-use mathlib.Core.Path.{_≡_, refl, sym, ap, _∙_}
-use mathlib.Core.Bool.{true}
+use mathlib.Core.Path.{_≡_, refl, sym, ap, subst, _∙_}
+use mathlib.Core.Bool.{true, false, false≢true}
 use mathlib.Core.List.{List, [], _∷_}
-use Prim.Native.Nat.{ℕ}
+use Prim.Native.Nat.{ℕ, _≤_}
+use native.Mathlib.Nat.{le-refl}
+use lib.Dec.{lit≤}
+use lib.ListN.{length}
 use denote.Enum.Declared.{tagOf}
 use types.Run.{OneOf}
 use Rattle.units.proofs.Keys.{none-of}
@@ -12,12 +15,15 @@ use Rattle.messages.specs.declared.Pair.{Pair}
 use Rattle.messages.specs.declared.Opened.{Opened}
 use Rattle.messages.specs.declared.Taken.{Taken}
 use Rattle.messages.specs.declared.Taken.the-variants.{Short, Foreign, Malformed, Command}
-use Rattle.messages.specs.Messages.{takenAs, registersOf, registersFor, refusal, opened, laid}
+use Rattle.messages.specs.Messages.{takenAs, registersOf, registersFor, headed, refusal, responseOf, opened, laid}
+use Rattle.messages.proofs.Cells.{filled-up}
+use Rattle.messages.proofs.Passing.{isCommand}
 use Rattle.mailbox.specs.Mediator.{mediate}
+use Rattle.ipmi.proofs.Few.{few-bytes}
 use Rattle.ipmi.specs.Served.{Served, servedAs, served}
 use Rattle.board.specs.declared.Record.{Record}
 use Rattle.board.specs.Calls.{commanded}
-use Rattle.ipmiboard.specs.Messages.{Messaged, untouchedRecord, mediatedRecord, messagedAs, messagedRecord, replyOf, MessageFollows}
+use Rattle.ipmiboard.specs.Messages.{Messaged, untouchedRecord, mediatedRecord, messagedAs, messagedRecord, replyOf, Tells, MessageFollows, MessageIrregular}
 use Rattle.board.specs.Record.{isRegular, sessionOf, recordOf}
 use Rattle.board.proofs.Answers.{nothing-lost}
 use Rattle.board.proofs.Regular.{of-session}
@@ -55,6 +61,10 @@ messaged-refused setup pair message h flash memory o e k =
 
 -- ---- beside the session
 
+-- a response of 16 bytes at most, as the code lays it out
+tells : (response : List ℕ) (actions : ℕ) → length response ≤ 16 → Tells response actions (replyOf (laid response) actions)
+tells response actions h = record { bytes = filled-up 16 16 response h (le-refl 16); long = refl; few = h; acted = refl }
+
 -- a message leaves a regular record as it leaves the session
 asSession : Record → Messaged → Served → Type 0
 asSession h o s =
@@ -76,4 +86,37 @@ same-as setup message h flash memory e Command =
 
 pub message-follows : MessageFollows
 unfolding asSession messagedRecord served
-message-follows setup pair message h flash memory e = same-as setup message h flash memory e (takenAs pair (h .version) message)
+message-follows setup pair message h flash memory e =
+    let s = served setup pair message (lent (sessionOf h) flash memory) in
+    let same = same-as setup message h flash memory e (takenAs pair (h .version) message) in (
+      same .0,
+      subst (Tells (s .response) (s .actions)) (sym (same .1)) (tells (s .response) (s .actions) (few-bytes setup pair message (lent (sessionOf h) flash memory))),
+      same .2,
+      same .3,
+      same .4,
+    )
+
+-- ---- of a record with a number that stands for nothing
+asItWas : Record → List ℕ → List ℕ → List ℕ → Taken → Messaged → Type 0
+asItWas h message flash memory t o =
+    (o .held ≡ h)
+    × (o .flash ≡ flash)
+    × (o .memory ≡ memory)
+    × (t ≡ Command → Tells (headed message 0x84) 0 (o .reply))
+    × ((t ≡ Command → ⊥) → Tells (refusal t message) 0 (o .reply))
+
+irregular-as : (setup : Setup) (message : List ℕ) (h : Record) (flash memory : List ℕ) → isRegular h ≡ false → (t : Taken)
+    → asItWas h message flash memory t (messagedAs t setup message h flash memory)
+unfolding asItWas commanded responseOf
+irregular-as setup message h flash memory e Short =
+    (refl, refl, refl, λ c. absurd (false≢true (ap isCommand c)), λ _. tells [] 0 (lit≤ tt))
+irregular-as setup message h flash memory e Foreign =
+    (refl, refl, refl, λ c. absurd (false≢true (ap isCommand c)), λ _. tells (headed message 0xc1) 0 (lit≤ tt))
+irregular-as setup message h flash memory e Malformed =
+    (refl, refl, refl, λ c. absurd (false≢true (ap isCommand c)), λ _. tells (headed message 0xc7) 0 (lit≤ tt))
+irregular-as setup message h flash memory e Command =
+    rw e (refl, refl, refl, λ _. tells (headed message 0x84) 0 (lit≤ tt), λ n. absurd (n refl))
+
+pub message-irregular : MessageIrregular
+unfolding asItWas messagedRecord
+message-irregular setup pair message h flash memory e = irregular-as setup message h flash memory e (takenAs pair (h .version) message)

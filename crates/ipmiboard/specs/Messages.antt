@@ -1,14 +1,15 @@
 -- What a message leaves, over the record that C keeps: document 02, Ticket 6.
 use mathlib.Core.Path.{_≡_}
-use Prim.Native.Nat.{ℕ}
-use mathlib.Core.Bool.{true}
-use mathlib.Core.List.{List}
+use Prim.Native.Nat.{ℕ, _-_, _≤_}
+use mathlib.Core.Bool.{true, false}
+use mathlib.Core.List.{List, _++_}
+use lib.ListN.{length, replicate}
 use Rattle.session.specs.Machine.{Setup, lent}
 use Rattle.messages.specs.declared.Pair.{Pair}
 use Rattle.messages.specs.declared.Taken.{Taken}
 use Rattle.messages.specs.declared.Taken.the-variants.{Short, Foreign, Malformed, Command}
 use Rattle.messages.specs.declared.Response.{Response}
-use Rattle.messages.specs.Messages.{takenAs, registersOf, refusal, responseOf, laid}
+use Rattle.messages.specs.Messages.{takenAs, registersOf, headed, refusal, responseOf, laid}
 use Rattle.ipmi.specs.Served.{served}
 use Rattle.ipmiboard.specs.declared.MessageReply.{MessageReply}
 use Rattle.board.specs.declared.Record.{Record}
@@ -60,15 +61,36 @@ messagedAs Command setup message h flash memory =
 unfoldable pub messagedRecord : Setup → Pair → List ℕ → Record → List ℕ → List ℕ → Messaged
 messagedRecord setup pair message h flash memory = messagedAs (takenAs pair (h .version) message) setup message h flash memory
 
+-- ---- beside the session. Proved in proofs/Messaging.antt
+
+-- a reply has this response, zero behind it, its length, and this number of chip actions
+pub record Tells (response : List ℕ) (actions : ℕ) (reply : MessageReply) : Type 0 where
+  pub bytes : reply .response ≡ response ++ replicate (16 - length response) 0
+  pub long : reply .length ≡ length response
+  pub few : reply .length ≤ 16
+  pub acted : reply .actions ≡ actions
+
 -- what a message leaves of a regular record stands for what it leaves of the session that the record stands for, with the same response, chip actions and
--- buffers; and the record stays regular. Proved in proofs/Messaging.antt
+-- buffers; and the record stays regular
 abbrev pub MessageFollows : Type 0
 MessageFollows =
     (setup : Setup) (pair : Pair) (message : List ℕ) (h : Record) (flash memory : List ℕ) → isRegular h ≡ true
     → (let o = messagedRecord setup pair message h flash memory in
     let s = served setup pair message (lent (sessionOf h) flash memory) in
     (o .held ≡ recordOf (h .previous) (s .machine .session))
-    × (o .reply ≡ replyOf (laid (s .response)) (s .actions))
+    × Tells (s .response) (s .actions) (o .reply)
     × (o .flash ≡ s .machine .flash)
     × (o .memory ≡ s .machine .memory)
     × (isRegular (o .held) ≡ true))
+
+-- a record with a number that stands for nothing stays exactly as it is, and so do both buffers; a message that is taken is SYSTEM_ERROR, 84 hex in three
+-- bytes, and any other is refused as for every record
+abbrev pub MessageIrregular : Type 0
+MessageIrregular =
+    (setup : Setup) (pair : Pair) (message : List ℕ) (h : Record) (flash memory : List ℕ) → isRegular h ≡ false
+    → (let o = messagedRecord setup pair message h flash memory in
+    (o .held ≡ h)
+    × (o .flash ≡ flash)
+    × (o .memory ≡ memory)
+    × (takenAs pair (h .version) message ≡ Command → Tells (headed message 0x84) 0 (o .reply))
+    × ((takenAs pair (h .version) message ≡ Command → ⊥) → Tells (refusal (takenAs pair (h .version) message) message) 0 (o .reply)))

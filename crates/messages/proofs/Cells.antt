@@ -1,9 +1,9 @@
 -- Lists by their elements: filled up with zeros, and from a place on.
 use mathlib.Core.Path.{_≡_, refl, sym, ap, _∙_}
 use mathlib.Core.List.{List, [], _∷_, _++_}
-use Prim.Native.Nat.{ℕ, zero, suc, _≤_}
-use native.Mathlib.Nat.{not-suc-le-zero, le-of-suc-le-suc, le-of-lt}
-use lib.ListN.{take, drop, replicate}
+use Prim.Native.Nat.{ℕ, zero, suc, _-_, _≤_}
+use native.Mathlib.Nat.{not-suc-le-zero, le-of-suc-le-suc, le-of-lt, sub-zero, suc-sub-suc}
+use lib.ListN.{length, take, drop, replicate}
 use Rattle.registers.proofs.Fields.{elements, elements-tail}
 
 none : (n i : ℕ) → elements n i [] ≡ replicate n 0
@@ -21,6 +21,14 @@ filled zero k xs h = refl
 filled (suc n) k [] h = zeros (suc n) k h ∙ sym (none (suc n) 0)
 filled (suc n) k (x ∷ xs) h =
     ap (λ (t : List ℕ). x ∷ t) (filled n k xs (le-of-lt h) ∙ sym (elements-tail n 0 x xs))
+
+-- and where the list has no more, the list with zeros behind it
+pub filled-up : (n k : ℕ) (xs : List ℕ) → length xs ≤ n → n ≤ k → take n (xs ++ replicate k 0) ≡ xs ++ replicate (n - length xs) 0
+filled-up n k [] l h = zeros n k h ∙ ap (λ (i : ℕ). replicate i 0) (sym (sub-zero n))
+filled-up zero k (x ∷ xs) l h = absurd (not-suc-le-zero l)
+filled-up (suc n) k (x ∷ xs) l h =
+    ap (λ (t : List ℕ). x ∷ t)
+    (filled-up n k xs (le-of-suc-le-suc l) (le-of-lt h) ∙ ap (λ (i : ℕ). xs ++ replicate i 0) (sym (suc-sub-suc n (length xs))))
 
 -- those of a list without its first k
 pub behind : (n k : ℕ) (xs : List ℕ) → elements n 0 (drop k xs) ≡ elements n k xs

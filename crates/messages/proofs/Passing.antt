@@ -46,7 +46,7 @@ each-taken P pair version message short foreign wrong command =
     let n = neither (ltb (length message) 4) (wrongLength (rowOf (hiomapCommandOf message) version) (length message - 4)) e in
     command record { long = ltb-false (length message) 4 (n .0); own = not-false (isOwn pair message) ours; right = n .1 })
 
-abbrev isCommand : Taken → Bool
+abbrev pub isCommand : Taken → Bool
 isCommand Short = false
 isCommand Foreign = false
 isCommand Malformed = false

@@ -3,7 +3,7 @@ use Prim.Native.Nat.{ℕ}
 use mathlib.Core.Option.{Option, none, some}
 use Rattle.messages.specs.Parameters.{Row, bytesIn}
 
--- the bytes of a request's parameters, and of a version that does not know the command a number that no message of the table has
+-- the bytes of a request's parameters; 255, which no row has, where the version does not know the command
 abbrev pub asked : Option Row → ℕ
 asked none = 255
 asked (some r) = bytesIn (r .request)

@@ -76,7 +76,7 @@ registersOf version message =
     ∷ numberOf message
     ∷ (argumentsOf (rowOf (hiomapCommandOf message) version) (parametersOf message) ++ (0 ∷ 0 ∷ 0 ∷ []))
 
--- a message that is refused has none: all 16 are zero
+-- a message that is refused has none: all 16 are zero (house)
 abbrev pub registersFor : Taken → ℕ → List ℕ → List ℕ
 registersFor Short version message = replicate 16 0
 registersFor Foreign version message = replicate 16 0
@@ -93,11 +93,11 @@ opened pair version message =
 abbrev pub madeOdd : ℕ → ℕ
 madeOdd n = n + (1 - n % 2)
 
--- its first three bytes: the request's network function and LUN, its command, the completion code
+-- its first three bytes: the request's network function made odd, with its LUN, its command, and the completion code
 abbrev pub headed : List ℕ → ℕ → List ℕ
 headed message completion = (madeOdd (networkFunctionOf message) * 4 + lunOf message) ∷ ipmiCommandOf message ∷ completion ∷ []
 
--- a refusal, by its completion code; "under two bytes, the empty response"
+-- a refusal, by its completion code; "under two bytes, the empty response". A message that is taken has none: it is never asked for (house)
 abbrev pub refusal : Taken → List ℕ → List ℕ
 refusal Short message = []
 refusal Foreign message = headed message 0xc1
@@ -121,7 +121,7 @@ valuesOf (some r) registers = packedFrom (r .response) registers
 abbrev pub statusOf : List ℕ → ℕ
 statusOf registers = getD registers 13 0
 
--- "any other status s becomes 80 hex + s (house)", as a byte: no status of the mediator reaches 80 hex
+-- "any other status s becomes 80 hex + s (house)"; of a content of register 13 that no mediator leaves, from 80 hex on, the low byte of that (house)
 abbrev pub completionOf : ℕ → ℕ
 completionOf s = (0x80 + s) % 256
 

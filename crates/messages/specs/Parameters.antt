@@ -1,5 +1,5 @@
--- The parameters of every command at every version that knows it: the tables of 000 and 002, "Command Definitions", in their order. The check of a message's
--- length, its unpacking and the packing of its response all go by this one table; a version more is rows more.
+-- The parameters of every command at versions 0 to 2: the tables of 000 and 002, "Command Definitions", in their order. The check of a message's length, its
+-- unpacking and the packing of its response all go by this one table.
 use Prim.Native.Nat.{ℕ, _+_}
 use mathlib.Core.Bool.{Bool, true, false, cond, _&&_}
 use mathlib.Core.List.{List, [], _∷_}
@@ -40,26 +40,27 @@ table =
     row 1 0 [] []
     ∷ row 1 1 [] []
     ∷ row 1 2 [] []
-    -- GET_INFO: Version; Version, Read Window Size, Write Window Size; Version, Block Size Shift, Timeout
+    -- GET_INFO: Version. Response of version 1: Version, Read Window Size, Write Window Size; of version 2: Version, Block Size Shift, Timeout
     ∷ row 2 0 (y 0 0 ∷ []) []
     ∷ row 2 1 (y 0 0 ∷ []) (y 0 0 ∷ q 1 1 ∷ q 3 3 ∷ [])
     ∷ row 2 2 (y 0 0 ∷ []) (y 0 0 ∷ y 5 1 ∷ q 6 2 ∷ [])
-    -- GET_FLASH_INFO: Flash Size, Erase Granule
+    -- GET_FLASH_INFO. Response: Flash Size, Erase Granule
     ∷ row 3 1 [] (u 0 0 ∷ u 4 4 ∷ [])
     ∷ row 3 2 [] (q 0 0 ∷ q 2 2 ∷ [])
-    -- CREATE_READ_WINDOW: Flash Offset, Length; LPC FW Offset, Length, Flash Address
+    -- CREATE_READ_WINDOW, version 1: Flash Offset. Response: LPC FW Offset
     ∷ row 4 1 (q 0 0 ∷ []) (q 0 0 ∷ [])
+    -- version 2: Flash Address, Length. Response: LPC FW Address, Length, Flash Address
     ∷ row 4 2 (q 0 0 ∷ q 2 2 ∷ []) (q 0 0 ∷ q 2 2 ∷ q 4 4 ∷ [])
-    -- CLOSE: Flags
+    -- CLOSE, version 2: Flags
     ∷ row 5 1 [] []
     ∷ row 5 2 (y 0 0 ∷ []) []
-    -- CREATE_WRITE_WINDOW: Flash Offset, Length; LPC FW Offset, Length, Flash Address
+    -- CREATE_WRITE_WINDOW, as CREATE_READ_WINDOW
     ∷ row 6 1 (q 0 0 ∷ []) (q 0 0 ∷ [])
     ∷ row 6 2 (q 0 0 ∷ q 2 2 ∷ []) (q 0 0 ∷ q 2 2 ∷ q 4 4 ∷ [])
-    -- MARK_DIRTY: Flash Offset, Length in bytes; Window Offset, Length in blocks
+    -- MARK_DIRTY, version 1: Flash Offset, Length in bytes; version 2: Window Offset, Length in blocks
     ∷ row 7 1 (q 0 0 ∷ u 2 2 ∷ []) []
     ∷ row 7 2 (q 0 0 ∷ q 2 2 ∷ []) []
-    -- FLUSH: Flash Offset, Length in bytes; none
+    -- FLUSH, version 1: Flash Offset, Length in bytes
     ∷ row 8 1 (q 0 0 ∷ u 2 2 ∷ []) []
     ∷ row 8 2 [] []
     -- ACK: Ack Mask

@@ -56,7 +56,7 @@ fn is_own(pair: Pair, first: u8, second: u8) -> bool
     first / 4 == pair.netfn && second == pair.command
 }
 
-// There is no hiomap command with its number, or not its parameters.
+// The message has no room for a hiomap command and its number, or not as many parameter bytes as the command has.
 fn is_malformed(version: u8, message: &[u8]) -> bool
     ensures { λ r. ⌜ r ≡ malformed version (now (message .entry)) ⌝ }
 {

@@ -1,5 +1,5 @@
 -- A message through the KCS port: the claims stand in specs/Kcs.antt.
-use mathlib.Core.Path.{_≡_, refl, sym, ap, subst, _∙_}
+use mathlib.Core.Path.{_≡_, refl, ap, subst, _∙_}
 use mathlib.Core.Bool.{true}
 use mathlib.Core.List.{List, [], _∷_, _++_}
 use mathlib.Core.Option.{Option}
@@ -17,118 +17,20 @@ use Rattle.kcshost.proofs.Reading.{published-exchange}
 use Rattle.kcshost.proofs.Waiting.{read-goes-on}
 use Rattle.messages.specs.declared.Pair.{Pair}
 use Rattle.messages.specs.declared.Taken.{Taken}
-use Rattle.messages.specs.declared.Taken.the-variants.{Short, Foreign, Malformed, Command}
-use Rattle.messages.specs.Lengths.{told}
 use Rattle.messages.specs.Messages.{headed, completionOf, valuesOf, statusOf, takenAs, registersOf, responseOf}
 use Rattle.messages.specs.Parameters.{Row, table, rowOf}
 use Rattle.messages.proofs.Passing.{each-taken}
-use Rattle.messages.proofs.Rows.{each-row, packed-long}
+use Rattle.messages.proofs.Rows.{each-row}
 use Rattle.mailbox.specs.Mediator.{mediate}
 use Rattle.mailbox.specs.Runs.{calledAll}
 use Rattle.ipmi.specs.Served.{Served, servedAs, served}
+use Rattle.ipmi.proofs.Few.{few-bytes}
 use Rattle.ipmi.proofs.Serving.{served-as}
-use Rattle.transports.specs.Same.{givenBy, messageOf, completionIn, statusTold, answers, Equals}
+use Rattle.transports.specs.Same.{givenBy, messageOf}
 use Rattle.transports.specs.Kcs.{written, answeredTo, exchangedAll, sendAll, SameAnswers, MessageByKcs, AnswerGoesOn, KcsAsMailbox}
-use Rattle.transports.proofs.Told.{mediate-answers, answers-long}
 use Rattle.transports.proofs.Same.{same-by-message}
 
--- ---- a response has 16 bytes at most
-few-told : (code version : ℕ) → leb (told (rowOf code version)) 11 ≡ true
-unfolding table
-few-told =
-    each-row (λ (code : ℕ) (version : ℕ) (o : Option Row). leb (told o) 11 ≡ true) (
-      refl,
-      (
-        refl,
-        (
-          refl,
-          (
-            refl,
-            (
-              refl,
-              (
-                refl,
-                (
-                  refl,
-                  (
-                    refl,
-                    (
-                      refl,
-                      (
-                        refl,
-                        (
-                          refl,
-                          (
-                            refl,
-                            (
-                              refl,
-                              (
-                                refl,
-                                (
-                                  refl,
-                                  (
-                                    refl,
-                                    (
-                                      refl,
-                                      (
-                                        refl,
-                                        (
-                                          refl,
-                                          (
-                                            refl,
-                                            (
-                                              refl,
-                                              (refl, tt),
-                                            ),
-                                          ),
-                                        ),
-                                      ),
-                                    ),
-                                  ),
-                                ),
-                              ),
-                            ),
-                          ),
-                        ),
-                      ),
-                    ),
-                  ),
-                ),
-              ),
-            ),
-          ),
-        ),
-      ),
-    )
-    (λ _ _. refl)
-
-few-responded : (version : ℕ) (message registers : List ℕ) → length registers ≡ 16 → length (responseOf version message registers) ≤ 16
-unfolding responseOf
-few-responded version message registers l =
-    let code = commandOf registers in
-    chosen (λ (t : List ℕ). length t ≤ 16) (eqb (statusOf registers) 1)
-    (headed message 0x00 ++ (code ∷ sequenceOf registers ∷ valuesOf (rowOf code version) registers))
-    (headed message (completionOf (statusOf registers)))
-    (λ _. omega (arith, packed-long code version registers l, leb-true (told (rowOf code version)) 11 (few-told code version)))
-    (λ _. omega arith)
-
--- whatever becomes of the message
-few-served : (setup : Setup) (pair : Pair) (message : List ℕ) (m : Machine) → length (served setup pair message m .response) ≤ 16
-few-served setup pair message m =
-    let version = m .session .version in
-    subst (λ (s : Served). length (s .response) ≤ 16) (served-as setup pair message m (takenAs pair version message) refl)
-    (by (takenAs pair version message))
-  where
-    by : (t : Taken) → length (servedAs t setup message m .response) ≤ 16
-    by Short = omega arith
-    by Foreign = omega arith
-    by Malformed = omega arith
-    by Command =
-        let registers = registersOf (m .session .version) message in
-        let o = mediate setup registers m in
-        few-responded (o .machine .session .version) message (o .registers) (answers-long registers o (mediate-answers setup registers m))
-
--- and one at least, if the message has two
+-- ---- a response has one byte at least, if the message has two
 some-responded : (version : ℕ) (message registers : List ℕ) → 1 ≤ length (responseOf version message registers)
 unfolding responseOf
 some-responded version message registers =
@@ -150,12 +52,12 @@ some-served setup pair message m h =
 -- ---- one message
 pub message-by-kcs : MessageByKcs
 message-by-kcs setup pair message m turns p some few h =
-    let short = few-served setup pair message m in
+    let short = few-bytes setup pair message m in
     published-exchange message (served setup pair message m .response) turns p some few (omega arith) (omega arith)
 
 pub answer-goes-on : AnswerGoesOn
 answer-goes-on setup pair message m turns p two few =
-    let short = few-served setup pair message m in
+    let short = few-bytes setup pair message m in
     let wrote = message-by-kcs setup pair message m 17 p (omega arith) few (omega arith) .0 in
     read-goes-on (served setup pair message m .response) turns (written message p) (wrote .phase) (some-served setup pair message m two) (omega arith)
 
@@ -237,7 +139,6 @@ pub kcs-as-mailbox : KcsAsMailbox
 kcs-as-mailbox setup pair lun turns [] p m l h a = (refl, tt)
 kcs-as-mailbox setup pair lun turns (registers ∷ rest) p m l h a =
     let message = messageOf pair lun (m .session .version) registers in
-    let o = mediate setup registers m in
     let few = few-given (commandOf registers) (m .session .version) registers (a .0) in
     let same = same-by-message setup pair lun registers m l (a .0) in
     let got = message-by-kcs setup pair message m turns p (omega arith) (omega arith) h .1 .got in
@@ -246,16 +147,8 @@ kcs-as-mailbox setup pair lun turns (registers ∷ rest) p m l h a =
     let after = kcs-as-mailbox setup pair lun turns rest (read .port) (served setup pair message m .machine) l h (a .1) in (
       after .0 ∙ ap (λ (k : Machine). calledAll setup (sendAll rest) k) (same .machine),
       (
-        record {
-          machine = refl;
-          actions = refl;
-          status = same .status ∙ ap (λ (r : List ℕ). statusTold (completionIn r)) (sym got);
-          success =
-              λ e.
-              subst (λ (r : List ℕ). Equals (answers (rowOf (commandOf (o .registers)) (o .machine .session .version))) r (o .registers)) (sym got)
-              (same .success e);
-          refused = λ n. got ∙ same .refused n;
-        },
+        got,
+        same,
         subst (λ (k : Machine). SameAnswers setup pair lun rest (line .got) k) (same .machine) (after .1),
       ),
     )

@@ -1,3 +1,4 @@
+pub mod Answered
 pub mod Demand
 pub mod Examples
 pub mod Kcs
@@ -7,5 +8,4 @@ pub mod Runs
 pub mod Same
 pub mod Sent
 pub mod Statuses
-pub mod Told
 pub mod Whole

@@ -5,7 +5,6 @@ use mathlib.Core.Bool.{Bool, cond}
 use mathlib.Core.List.{List, [], _∷_, _++_}
 use mathlib.Core.Option.{Option, none, some}
 use Prim.Native.Nat.{ℕ, min}
-use native.Mathlib.Nat.{le-refl}
 use lib.Dec.{ltb}
 use lib.ListN.{length, getD, replicate}
 use Rattle.units.specs.Units.{blockBytes, toBytes, roundUp}
@@ -16,7 +15,7 @@ use Rattle.session.specs.declared.Session.{Session}
 use Rattle.session.specs.Machine.{Setup, Machine, lent}
 use Rattle.session.specs.Record.{withVersion, withWindow}
 use Rattle.soundness.specs.Soundness.{soundIn}
-use Rattle.registers.specs.Registers.{commandOf, sequenceOf, argument, number, bytesOf, padded, reply}
+use Rattle.registers.specs.Registers.{argument, number, bytesOf}
 use Rattle.registers.proofs.Fields.{elements}
 use Rattle.flush.specs.Window.{flushWhole}
 use Rattle.refusals.specs.declared.Reason.{Reason}
@@ -24,13 +23,13 @@ use Rattle.refusals.specs.declared.Reason.the-variants.{Accepted, System, Repea
 use Rattle.refusals.specs.Refusals.{reasonFor}
 use Rattle.messages.specs.Parameters.{Parameter, y, q, u, Row, row, table, rowOf}
 use Rattle.messages.specs.Messages.{argumentsOf}
-use Rattle.messages.proofs.Cells.{filled}
 use Rattle.messages.proofs.Rows.{each-row}
 use Rattle.mailbox.specs.Commands.{Outcome, outcome, leaving, answered, numberedIn, infoArguments, informed, flashInformed}
 use Rattle.mailbox.specs.Commands.{hint, sizeFor, createArguments, opened, created}
 use Rattle.mailbox.specs.Table.{Command, reset, getInfo, getFlashInfo, createReadWindow, closeWindow, createWriteWindow, markDirty, flush, ack, erase, unknown}
 use Rattle.mailbox.specs.Mediator.{commandAt, reasonOf, answerTo, obeyed, mediate}
 use Rattle.mailbox.proofs.Mediating.{each-command}
+use Rattle.ipmi.proofs.Told.{reply-as}
 use Rattle.transports.specs.Same.{givenBy}
 
 -- what is left, without registers 14 and 15
@@ -41,14 +40,6 @@ pub record Seen : Type 0 where
 
 abbrev pub seen : Outcome → Seen
 seen o = record { machine = o .machine; front = elements 14 0 (o .registers); actions = o .actions }
-
--- the registers of an answer
-pub reply-as : (registers : List ℕ) (code : ℕ) (arguments : List ℕ) (events : ℕ)
-    → reply registers code (padded arguments) events
-    ≡ commandOf registers ∷ sequenceOf registers ∷ (elements 11 0 arguments ++ (code ∷ getD registers 14 0 ∷ events ∷ []))
-reply-as registers code arguments events =
-    ap (λ (t : List ℕ). commandOf registers ∷ sequenceOf registers ∷ (t ++ (code ∷ getD registers 14 0 ∷ events ∷ [])))
-    (filled 11 11 arguments (le-refl 11))
 
 module _ (setup : Setup) (command sequence : ℕ) (xs ys : List ℕ) where
   -- two contents of the registers with the same command and number

@@ -26,7 +26,7 @@ use Rattle.transports.specs.Same.{messageOf, completionIn, statusTold, a
 use Rattle.transports.proofs.Looking.{Seen, seen}
 use Rattle.transports.proofs.Sent.{message-taken, message-alike}
 use Rattle.transports.proofs.Statuses.{response-few}
-use Rattle.transports.proofs.Told.{mediate-answers, answers-long}
+use Rattle.ipmi.proofs.Told.{mediate-answers, answers-long}
 use Rattle.transports.proofs.Whole.{Whole, success-whole}
 
 -- ---- a response has nothing of registers 14 and 15

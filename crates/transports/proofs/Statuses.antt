@@ -27,9 +27,9 @@ use Rattle.mailbox.specs.Commands.{Outcome, numberedIn, infoArguments, informed
 use Rattle.mailbox.specs.Table as table
 use Rattle.mailbox.specs.Mediator.{commandAt, commandIn, reasonOf, reasonIn, answerTo, mediate, response}
 use Rattle.mailbox.proofs.Mediating.{mediate-as, each-command}
+use Rattle.ipmi.proofs.Told.{reply-as}
 use Rattle.ipmi.specs.Served.{servedAs}
 use Rattle.transports.specs.Same.{completionIn}
-use Rattle.transports.proofs.Looking.{reply-as}
 
 -- ---- the status of a command
 

@@ -31,7 +31,7 @@ MessageByKcs =
     (setup : Setup) (pair : Pair) (message : List ℕ) (m : Machine) (turns : ℕ) (p : Port) → 1 ≤ length message → length message ≤ 64 → 16 < turns
     → Written message p × Read (served setup pair message m .response) turns (answeredTo setup pair message m p)
 
--- a host that waits for OBF already when the answer comes gets it too, if the message has two bytes: only a shorter one is answered with the empty response
+-- a host that waits for OBF already when the answer comes gets it too, if the message has two bytes or more: only a shorter one is answered with the empty response
 -- (`EmptyRaces`, crate kcshost)
 abbrev pub AnswerGoesOn : Type 0
 AnswerGoesOn =
@@ -60,14 +60,15 @@ abbrev pub sendAll : List (List ℕ) → List Call
 sendAll [] = []
 sendAll (registers ∷ rest) = send registers ∷ sendAll rest
 
--- each response stands beside what the mailbox command answers there (`Same`)
+-- each response that was read is that of its message, and stands beside what the mailbox command leaves and answers there (`Same`)
 abbrev pub SameAnswers : Setup → Pair → ℕ → List (List ℕ) → List (List ℕ) → Machine → Type 0
 SameAnswers setup pair lun [] [] m = Unit
 SameAnswers setup pair lun [] (response ∷ responses) m = ⊥
 SameAnswers setup pair lun (registers ∷ rest) [] m = ⊥
 SameAnswers setup pair lun (registers ∷ rest) (response ∷ responses) m =
-    Same (messageOf pair lun (m .session .version) registers) (mediate setup registers m)
-    (record { machine = mediate setup registers m .machine; response = response; actions = mediate setup registers m .actions })
+    (response ≡ served setup pair (messageOf pair lun (m .session .version) registers) m .response)
+    × Same (messageOf pair lun (m .session .version) registers) (mediate setup registers m)
+    (served setup pair (messageOf pair lun (m .session .version) registers) m)
     × SameAnswers setup pair lun rest responses (mediate setup registers m .machine)
 
 abbrev pub AllOf16 : List (List ℕ) → Type 0

@@ -2,23 +2,32 @@
 use mathlib.Core.Path.{_≡_, ap}
 use mathlib.Core.Bool.{cond}
 use mathlib.Core.List.{List, [], _∷_, _++_}
+use native.Mathlib.Nat.{le-refl}
 use Prim.Native.Nat.{ℕ, min}
 use lib.Dec.{ltb}
 use lib.ListN.{length, getD}
 use Rattle.units.specs.Units.{blockBytes, toBytes, roundUp}
 use Rattle.session.specs.declared.Session.{Session}
 use Rattle.session.specs.Machine.{Setup, Machine}
-use Rattle.registers.specs.Registers.{commandOf, sequenceOf, argument, number, bytesOf}
+use Rattle.registers.specs.Registers.{commandOf, sequenceOf, argument, number, bytesOf, padded, reply}
 use Rattle.registers.proofs.Fields.{elements}
 use Rattle.refusals.specs.declared.Reason.{Reason}
 use Rattle.refusals.specs.declared.Reason.the-variants.{Accepted, System, Repeated, Unknown, Suspended, Windowless, Argument}
 use Rattle.refusals.specs.Refusals.{codeFor}
+use Rattle.messages.proofs.Cells.{filled}
 use Rattle.mailbox.specs.Commands.{Outcome, outcome, answered, numberedIn, refused, infoArguments, createArguments, sizeFor, hint}
 use Rattle.mailbox.specs.Commands as commands
 use Rattle.mailbox.specs.Table.{Command}
 use Rattle.mailbox.specs.Mediator.{commandAt, commandIn, reasonIn, answerTo, obeyed, mediate}
 use Rattle.mailbox.proofs.Mediating.{each-command}
-use Rattle.transports.proofs.Looking.{reply-as}
+
+-- the registers of an answer
+pub reply-as : (registers : List ℕ) (code : ℕ) (arguments : List ℕ) (events : ℕ)
+    → reply registers code (padded arguments) events
+    ≡ commandOf registers ∷ sequenceOf registers ∷ (elements 11 0 arguments ++ (code ∷ getD registers 14 0 ∷ events ∷ []))
+reply-as registers code arguments events =
+    ap (λ (t : List ℕ). commandOf registers ∷ sequenceOf registers ∷ (t ++ (code ∷ getD registers 14 0 ∷ events ∷ [])))
+    (filled 11 11 arguments (le-refl 11))
 
 -- ---- the registers of an answer: its command and number, its arguments, a response, register 14 as received and the event byte
 pub record Answers (registers : List ℕ) (o : Outcome) : Type 0 where
