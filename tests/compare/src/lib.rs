@@ -64,8 +64,11 @@ pub struct MessageReply {
 }
 
 impl MessageReply {
+    /// The response ends within its 16 bytes, and nothing but 0 stands behind it.
     pub fn bytes(&self) -> &[u8] {
-        &self.response[..self.length as usize]
+        let (response, behind) = self.response.split_at(self.length as usize);
+        assert!(behind.iter().all(|byte| *byte == 0), "bytes behind the response are not 0: {self:02X?}");
+        response
     }
 }
 
@@ -134,13 +137,9 @@ pub fn command(record: &mut Record, registers: &mut [u8; 16], lpc: u16, timeout:
     unsafe { hiomap_command(record, registers, lpc, timeout, bytes(flash), bytes(memory)) }
 }
 
-/// The response ends within its bytes, and nothing but 0 stands behind it.
 pub fn message(record: &mut Record, board: BoardPair, message: &[u8], lpc: u16, timeout: u16, flash: &mut [u8], memory: &mut [u8]) -> MessageReply {
     let BoardPair { network_function, command } = board;
-    let reply = unsafe { hiomap_message(record, network_function, command, const_bytes(message), lpc, timeout, bytes(flash), bytes(memory)) };
-    let behind = reply.response.get(reply.length as usize..);
-    assert!(behind.is_some_and(|behind| behind.iter().all(|byte| *byte == 0)), "bytes behind the response are not 0: {reply:02X?}");
-    reply
+    unsafe { hiomap_message(record, network_function, command, const_bytes(message), lpc, timeout, bytes(flash), bytes(memory)) }
 }
 
 /// The code, and the place of the first bad pair where one is named. Only the lengths of both buffers are handed over.
