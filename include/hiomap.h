@@ -91,7 +91,7 @@ extern "C" {
 #define HIOMAP_RESPONSE_SEQUENCE 4
 #define HIOMAP_RESPONSE_PARAMETERS 5
 
-/* The most bytes of a response. */
+/* The room for a response. */
 #define HIOMAP_MOST_RESPONSE 16
 
 /* The completion codes: HIOMAP_FAILED + s stands for any response s but HIOMAP_SUCCESS. */

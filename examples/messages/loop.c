@@ -50,9 +50,9 @@ static const char *yes(bool answer) {
 static uint8_t waiting;  /* the length of a message that is not answered yet, else 0 */
 static uint32_t actions; /* the chip actions of the message that was served last */
 
-/* A turn of the board's loop, in which it gets to serve a message. It serves a copy: where an interrupt takes the
- * host's accesses meanwhile, a new request is written over the old one. Such a board also sees to it that it answers no
- * message but the one that it has served; here no access comes in between. */
+/* A turn of the board's loop, in which it gets to serve a message. It serves a copy, and answers only if no newer
+ * message came meanwhile: that one's answer is awaited then. Where an interrupt takes the host's accesses it is held off
+ * from the first test of `waiting` to the 0, and from the second to the end of the answer. Here nothing comes between. */
 static void board_turn(void) {
     if (waiting == 0)
         return;
@@ -64,23 +64,32 @@ static void board_turn(void) {
         hiomap_message(&session, NETFN, IPMI_COMMAND, (hiomap_const_bytes){message, length}, LPC_BLOCK, TIMEOUT,
                        (hiomap_bytes){flash, sizeof flash}, (hiomap_bytes){memory, sizeof memory});
     actions = reply.actions;
-    if (!kcs_respond(&port, (kcs_bytes){reply.response, reply.length}))
-        printf("board: nobody awaits the response\n"); /* what the message did stays done */
-}
-
-/* The board starts, or the host is reset. The port needs nothing then: a write transfer begins from every state. */
-static void host_reset(void) {
-    session = hiomap_fresh();
-    printf("host reset, events %02X\n", session.events);
+    if (waiting == 0) /* false where the host has given up: what the message did stays done */
+        kcs_respond(&port, (kcs_bytes){reply.response, reply.length});
 }
 
 /* No response has the event byte, so a board tells of each change. This port's SMS_ATN is always 0, and its host learns
  * of a suspension when a command is refused. */
+static void tell_events(void) {
+    printf("    a board that has SMS_ATN sets it now, and its host fetches the event byte\n");
+}
+
+/* The board starts, or the host is reset. The port needs nothing then: a write transfer begins from every state. What
+ * the host had sent before and the board has not served is dropped. A fresh record is not suspended: where another
+ * master holds the flash at that time, hiomap_suspend comes next. */
+static void host_reset(void) {
+    session = hiomap_fresh();
+    waiting = 0;
+    printf("host reset, events %02X\n", session.events);
+    tell_events();
+}
+
 static void change_access(const char *name, hiomap_suspended (*call)(hiomap_record)) {
     hiomap_suspended answer = call(session);
     session = answer.record;
     printf("%s %s, events %02X\n", name, yes(answer.done), session.events);
-    printf("    a board that has SMS_ATN sets it now, and its host fetches the event byte\n");
+    if (answer.done)
+        tell_events();
 }
 
 /* ---- between the two: each access of the host is one call, where a board has KCS hardware that tells of it */
@@ -224,7 +233,8 @@ static void version_two(void) {
     COMMAND("ACK", 9, 8, 0xFF);
 }
 
-/* Sends a message, and its command by mailbox on copies of all that the board has. */
+/* Sends a message of at most 15 bytes, and its command by mailbox on copies of all that the board has. The parameters
+ * of a request have the same offsets both ways. */
 static void both_ways(const char *name, const uint8_t *message, size_t length) {
     static uint8_t other_flash[sizeof flash], other_memory[sizeof memory];
     hiomap_record other = session;

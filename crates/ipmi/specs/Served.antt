@@ -36,6 +36,6 @@ servedAs Command setup message m = mediated message (mediate setup (registersOf 
 unfoldable pub served : Setup → Pair → List ℕ → Machine → Served
 served setup pair message m = servedAs (takenAs pair (m .session .version) message) setup message m
 
--- no response has more than 16 bytes. Proved in proofs/Few.antt
+-- no response has more than 16 bytes, which is the room that the code has; the longest today has 13. Proved in proofs/Few.antt
 abbrev pub FewBytes : Type 0
 FewBytes = (setup : Setup) (pair : Pair) (message : List ℕ) (m : Machine) → length (served setup pair message m .response) ≤ 16

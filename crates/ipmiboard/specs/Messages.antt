@@ -17,10 +17,6 @@ use Rattle.ipmiboard.specs.declared.message.ServedMessage.{ServedMessage
 use Rattle.board.specs.Calls.{Left, commanded}
 use Rattle.board.specs.Record.{isRegular, sessionOf, recordOf}
 
--- "the board's pair", as C passes it
-abbrev pub pairOf : ℕ → ℕ → Pair
-pairOf netfn command = record { netfn = netfn; command = command }
-
 -- a response and a number of chip actions, as C has them
 abbrev pub replyOf : Response → ℕ → MessageReply
 replyOf response actions = record { response = response .bytes; length = response .length; actions = actions }

@@ -1,7 +1,8 @@
 // The C boundary of messages: the function that C links, over the record that crate board has for a session.
 //
-// It is an archive of its own, so that the mediator is compiled in place here as it is for a mailbox command (docs/PERFORMANCE.md). Every
-// message, every record and every buffer length gets an answer. References that C lends must be valid and must not overlap: include/hiomap.h.
+// It is an archive of its own: in one with hiomap_command the mediator had two callers, and was compiled in place in neither
+// (docs/PERFORMANCE.md). Every message, every record and every buffer length gets an answer. References that C lends must be valid and must not
+// overlap: include/hiomap.h.
 mod message;
 
 pub use message::hiomap_message;

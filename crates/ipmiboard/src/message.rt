@@ -10,7 +10,7 @@ use messages::pack;
 use messages::refuse;
 ghost use mathlib.Core.Path.{_≡_};
 ghost use Rattle.board.specs.Calls.{board, commanded};
-ghost use Rattle.ipmiboard.specs.Messages.{pairOf, replyOf, tellsMessage, mediatedRecord, messagedRecord};
+ghost use Rattle.ipmiboard.specs.Messages.{replyOf, tellsMessage, mediatedRecord, messagedRecord};
 
 // What a message gives back.
 pub struct ServedMessage {
@@ -30,7 +30,7 @@ pub(crate) fn serve_message(
     memory: &mut [u8],
 ) -> ServedMessage
     ensures { λ r. ⌜ tellsMessage r (now (flash .exit)) (now (memory .exit))
-        ≡ messagedRecord (board lpc timeout) (pairOf netfn command) (now (message .entry)) held (now (flash .entry)) (now (memory .entry)) ⌝ }
+        ≡ messagedRecord (board lpc timeout) (record { netfn = netfn; command = command }) (now (message .entry)) held (now (flash .entry)) (now (memory .entry)) ⌝ }
 {
     let opened = open_message(Pair { netfn, command }, held.version, message);
     let taken = opened.taken;
@@ -88,7 +88,7 @@ pub extern "C" fn hiomap_message(
     memory: &mut [u8],
 ) -> MessageReply
     ensures { λ r. ⌜ tellsMessage (record { held = now (held .exit); reply = r }) (now (flash .exit)) (now (memory .exit))
-        ≡ messagedRecord (board lpc timeout) (pairOf netfn command) (now (message .entry)) (now (held .entry)) (now (flash .entry)) (now (memory .entry)) ⌝ }
+        ≡ messagedRecord (board lpc timeout) (record { netfn = netfn; command = command }) (now (message .entry)) (now (held .entry)) (now (flash .entry)) (now (memory .entry)) ⌝ }
 {
     let served = serve_message(*held, netfn, command, message, lpc, timeout, flash, memory);
     *held = served.held;

@@ -113,6 +113,7 @@ packed (p ∷ ps) arguments given = packed ps arguments (replace (p .message) (r
 abbrev pub packedFrom : List Parameter → List ℕ → List ℕ
 packedFrom ps registers = packed ps (range 2 11 registers) (replicate (bytesIn ps) 0)
 
+-- those of a response, by its row; a command that the version does not know has none
 abbrev pub valuesOf : Option Row → List ℕ → List ℕ
 valuesOf none registers = []
 valuesOf (some r) registers = packedFrom (r .response) registers

@@ -8,8 +8,7 @@ ghost use mathlib.Core.Bool.{cond, _&&_};
 ghost use mathlib.Core.List.{[]};
 ghost use Prim.Native.Nat.{_+_, _*_, _/_, _%_};
 ghost use lib.Dec.{eqb, ltb};
-ghost use lib.ListN.{getD};
-ghost use Rattle.registers.specs.Registers.{commandOf, padded};
+ghost use Rattle.registers.specs.Registers.{padded};
 ghost use Rattle.messages.specs.Parameters.{rowOf};
 ghost use Rattle.messages.specs.Messages.{madeOdd, headed, refusal, valuesOf, responseOf, laid};
 

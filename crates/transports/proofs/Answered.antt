@@ -1,42 +1,100 @@
 -- What a message gets is what the ticket says: the claim stands in specs/Answered.antt.
 use mathlib.Core.Path.{_≡_, refl, sym, ap, subst, _∙_}
-use mathlib.Core.Bool.{Bool, true, false, not, _&&_}
+use mathlib.Core.Bool.{Bool, true, false, not, _&&_, and-false}
 use mathlib.Core.List.{List, [], _∷_, _++_}
 use mathlib.Core.Logic.{⊎-elim}
 use mathlib.Core.Option.{Option}
-use Prim.Native.Nat.{ℕ, _-_, _/_, _≤_, _<_}
+use Prim.Native.Nat.{ℕ, zero, suc, _+_, _-_, _/_, _≤_, _<_}
 use native.Mathlib.Omega.{arith}
-use lib.Dec.{eqb}
+use lib.Dec.{eqb, leb}
 use lib.ListN.{length, getD, drop, length-drop}
-use borrow.Author.Tests.{lt-ltb, le-ltb, eq-eqb, ne-eqb, eqb-true, le-leb, lt-leb}
+use borrow.Author.Tests.{lt-ltb, le-ltb, eq-eqb, ne-eqb, eqb-true, leb-true, le-leb, lt-leb}
 use Rattle.units.proofs.Cases.{below-or, chosen, both}
 use Rattle.session.specs.Machine.{Setup, Machine}
-use Rattle.registers.specs.Registers.{commandOf, sequenceOf, padded}
+use Rattle.registers.specs.Registers.{commandOf, sequenceOf}
+use Rattle.registers.proofs.Fields.{elements, elements-of}
 use Rattle.messages.specs.declared.Pair.{Pair}
 use Rattle.messages.specs.declared.Taken.the-variants.{Short, Foreign, Malformed, Command}
 use Rattle.messages.specs.Messages.{isOwn, wrongLength, takenAs, registersOf, headed, statusOf, completionOf, valuesOf, responseOf}
 use Rattle.messages.specs.Parameters.{Row, table, rowOf, isRow}
 use Rattle.messages.proofs.Rows.{each-row, unpacked-as}
+use Rattle.mailbox.specs.Commands.{Outcome}
 use Rattle.mailbox.specs.Mediator.{mediate}
 use Rattle.ipmi.specs.Served.{Served, untouched, mediated}
 use Rattle.ipmi.proofs.Serving.{served-as}
-use Rattle.transports.specs.Answered.{parameterBytes, knownAt, Own, Heads, Refused, Mediated, AnsweredAsSaid}
+use Rattle.ipmi.proofs.Told.{mediate-answers, answers-long}
+use Rattle.transports.specs.Answered.{parameterBytes, said, knownAt, Own, Heads, Refused, asMailbox, Mediated, AnsweredAsSaid}
 use Rattle.transports.proofs.Known.{known-as-said}
+use Rattle.transports.proofs.Statuses.{response-few}
 
 -- ---- the head of a response: what is said of byte 0 is arithmetic
 headed-heads : (message rest : List ℕ) (completion : ℕ) → Heads message (headed message completion ++ rest)
 headed-heads message rest completion = record { function = omega arith; odd = omega arith; lun = omega arith; command = refl }
 
 -- every response that the mediator's registers give begins so
-response-heads : (version : ℕ) (message registers : List ℕ)
-    → Heads message (responseOf version message registers) × (3 ≤ length (responseOf version message registers))
+response-heads : (version : ℕ) (message registers : List ℕ) → Heads message (responseOf version message registers)
 unfolding responseOf
 response-heads version message registers =
     let code = commandOf registers in
     let status = statusOf registers in
     let rest = code ∷ sequenceOf registers ∷ valuesOf (rowOf code version) registers in
-    chosen (λ (t : List ℕ). Heads message t × (3 ≤ length t)) (eqb status 1) (headed message 0x00 ++ rest) (headed message (completionOf status))
-    (λ _. (headed-heads message rest 0x00, omega arith)) (λ _. (headed-heads message [] (completionOf status), omega arith))
+    chosen (Heads message) (eqb status 1) (headed message 0x00 ++ rest) (headed message (completionOf status))
+    (λ _. headed-heads message rest 0x00) (λ _. headed-heads message [] (completionOf status))
+
+-- ---- the parameters of a response
+
+-- those of a command, at each of the three versions
+abbrev Tells : List ℕ → ℕ → Type 0
+Tells registers code =
+    (valuesOf (rowOf code 0) registers ≡ said 0 code registers)
+    × (valuesOf (rowOf code 1) registers ≡ said 1 code registers)
+    × (valuesOf (rowOf code 2) registers ≡ said 2 code registers)
+
+-- a code past the table
+past-table : (registers : List ℕ) (code : ℕ) → 11 ≤ code → Tells registers code
+unfolding rowOf table
+past-table registers code past = (
+  rw (off 1 refl, off 2 refl, off 9 refl),
+  rw (off 1 refl, off 2 refl, off 3 refl, off 4 refl, off 5 refl, off 6 refl, off 7 refl, off 8 refl, off 9 refl),
+  rw (off 1 refl, off 2 refl, off 3 refl, off 4 refl, off 5 refl, off 6 refl, off 7 refl, off 8 refl, off 9 refl, off 10 refl),
+)
+  where
+    off : (k : ℕ) → leb k 10 ≡ true → eqb code k ≡ false
+    off k h = let small = leb-true k 10 h in ne-eqb code k (λ e. omega arith)
+
+each-code : (registers : List ℕ) (code : ℕ) → Tells (elements 16 0 registers) code
+unfolding rowOf table
+each-code registers zero = (refl, refl, refl)
+each-code registers (suc zero) = (refl, refl, refl)
+each-code registers (suc (suc zero)) = (refl, refl, refl)
+each-code registers (suc (suc (suc zero))) = (refl, refl, refl)
+each-code registers (suc (suc (suc (suc zero)))) = (refl, refl, refl)
+each-code registers (suc (suc (suc (suc (suc zero))))) = (refl, refl, refl)
+each-code registers (suc (suc (suc (suc (suc (suc zero)))))) = (refl, refl, refl)
+each-code registers (suc (suc (suc (suc (suc (suc (suc zero))))))) = (refl, refl, refl)
+each-code registers (suc (suc (suc (suc (suc (suc (suc (suc zero)))))))) = (refl, refl, refl)
+each-code registers (suc (suc (suc (suc (suc (suc (suc (suc (suc zero))))))))) = (refl, refl, refl)
+each-code registers (suc (suc (suc (suc (suc (suc (suc (suc (suc (suc zero)))))))))) = (refl, refl, refl)
+each-code registers (suc (suc (suc (suc (suc (suc (suc (suc (suc (suc (suc n))))))))))) =
+    past-table (elements 16 0 registers) (suc (suc (suc (suc (suc (suc (suc (suc (suc (suc (suc n))))))))))) (omega arith)
+
+-- a version above 2 has none
+from-three : (registers : List ℕ) (code version : ℕ) → 3 ≤ version → valuesOf (rowOf code version) registers ≡ said version code registers
+unfolding rowOf table
+from-three registers code version h =
+    rw (ne-eqb version 0 (λ e. omega arith), ne-eqb version 1 (λ e. omega arith), ne-eqb version 2 (λ e. omega arith), and-false (eqb code 2))
+
+values-said : (registers : List ℕ) → length registers ≡ 16 → (code version : ℕ) → valuesOf (rowOf code version) registers ≡ said version code registers
+values-said registers long code version = by version
+  where
+    tells : Tells registers code
+    tells = subst (λ (t : List ℕ). Tells t code) (elements-of 16 registers long) (each-code registers code)
+
+    by : (version : ℕ) → valuesOf (rowOf code version) registers ≡ said version code registers
+    by zero = tells .0
+    by (suc zero) = tells .1
+    by (suc (suc zero)) = tells .2
+    by (suc (suc (suc v))) = from-three registers code (suc (suc (suc v))) (omega arith)
 
 -- ---- a wrong length
 
@@ -168,23 +226,56 @@ refused-as completion message m s e =
     subst (λ (s : Served). Refused completion message m s) e
     record { machine = refl; actions = refl; heads = headed-heads message [] completion; three = refl; completion = refl }
 
-mediated-as : (setup : Setup) (message : List ℕ) (m : Machine) (s : Served) (registers : List ℕ)
-    → getD message 2 0 ∷ getD message 3 0 ∷ (padded (drop 4 message) ++ (0 ∷ 0 ∷ 0 ∷ [])) ≡ registers → mediated message (mediate setup registers m) ≡ s
-    → Mediated setup message m s
+-- of an outcome whose registers begin with the message's command and number
+module _ (message : List ℕ) (o : Outcome) (long : length (o .registers) ≡ 16) (few : statusOf (o .registers) ≤ 8)
+    (command : commandOf (o .registers) ≡ getD message 2 0) (number : sequenceOf (o .registers) ≡ getD message 3 0) where
+  abbrev version : ℕ
+  version = o .machine .session .version
+
+  abbrev values : List ℕ
+  values = said version (getD message 2 0) (o .registers)
+
+  abbrev response : List ℕ
+  response = responseOf version message (o .registers)
+
+  full-response : statusOf (o .registers) ≡ 1 → headed message 0x00 ++ (getD message 2 0 ∷ getD message 3 0 ∷ values) ≡ response
+  unfolding responseOf
+  full-response e =
+      rw (eq-eqb (statusOf (o .registers)) 1 e, command, number)
+      (ap (λ (t : List ℕ). headed message 0x00 ++ (getD message 2 0 ∷ getD message 3 0 ∷ t))
+      (sym (values-said (o .registers) long (getD message 2 0) version)))
+
+  short-response : (statusOf (o .registers) ≡ 1 → ⊥) → headed message (0x80 + statusOf (o .registers)) ≡ response
+  unfolding responseOf
+  short-response n = rw (ne-eqb (statusOf (o .registers)) 1 n) (ap (headed message) (omega arith))
+
+  outcome-mediated : Mediated message o (mediated message o)
+  outcome-mediated =
+      record {
+        machine = refl;
+        actions = refl;
+        heads = response-heads version message (o .registers);
+        success = λ e.
+            subst
+            (λ (t : List ℕ). (getD t 2 0 ≡ 0x00) × (getD t 3 0 ≡ getD message 2 0) × (getD t 4 0 ≡ getD message 3 0) × (drop 5 t ≡ values) × (5 ≤ length t))
+            (full-response e) (refl, refl, refl, refl, omega arith);
+        refused = λ n.
+            subst (λ (t : List ℕ). (length t ≡ 3) × (getD t 2 0 ≡ 0x80 + statusOf (o .registers))) (short-response n) (refl, refl);
+      }
+
+-- the mediator's outcomes are such
+mediated-as : (setup : Setup) (message : List ℕ) (m : Machine) (s : Served) (registers : List ℕ) → asMailbox message ≡ registers
+    → mediated message (mediate setup registers m) ≡ s → Mediated message (mediate setup (asMailbox message) m) s
 mediated-as setup message m s registers r e =
-    let o = mediate setup registers m in
-    let heads = response-heads (o .machine .session .version) message (o .registers) in
-    subst (λ (s : Served). Mediated setup message m s) e
-    record {
-      machine = sym (ap (λ (t : List ℕ). mediate setup t m .machine) r);
-      actions = sym (ap (λ (t : List ℕ). mediate setup t m .actions) r);
-      heads = heads .0;
-      three = heads .1;
-    }
+    let o = mediate setup (asMailbox message) m in
+    let a = mediate-answers setup (asMailbox message) m in
+    subst (λ (s : Served). Mediated message o s) (ap (λ (t : List ℕ). mediated message (mediate setup t m)) r ∙ e)
+    (outcome-mediated message o (answers-long (asMailbox message) o a) (response-few setup (asMailbox message) m) (ap commandOf (a .are))
+    (ap sequenceOf (a .are)))
 
 -- the arguments are the parameter bytes
 registers-as : (version : ℕ) (message : List ℕ) → wrongLength (rowOf (getD message 2 0) version) (length message - 4) ≡ false
-    → getD message 2 0 ∷ getD message 3 0 ∷ (padded (drop 4 message) ++ (0 ∷ 0 ∷ 0 ∷ [])) ≡ registersOf version message
+    → asMailbox message ≡ registersOf version message
 registers-as version message w =
     let code = getD message 2 0 in
     ap (λ (t : List ℕ). code ∷ getD message 3 0 ∷ (t ++ (0 ∷ 0 ∷ 0 ∷ [])))

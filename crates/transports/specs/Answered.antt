@@ -6,8 +6,10 @@ use mathlib.Core.List.{List, [], _∷_, _++_}
 use lib.Dec.{eqb, leb}
 use lib.ListN.{length, getD, drop}
 use Rattle.session.specs.Machine.{Setup, Machine}
+use Rattle.buffers.specs.Ranges.{range}
 use Rattle.registers.specs.Registers.{padded}
 use Rattle.messages.specs.declared.Pair.{Pair}
+use Rattle.mailbox.specs.Commands.{Outcome}
 use Rattle.mailbox.specs.Mediator.{mediate}
 use Rattle.invariants.specs.Codes.{knows, isCreate}
 use Rattle.ipmi.specs.Served.{Served, served}
@@ -22,6 +24,20 @@ parameterBytes version code =
     (cond (isCreate code) (cond (eqb version 1) 2 4)
     (cond (eqb code 5) (cond (eqb version 1) 0 1)
     (cond (eqb code 7) (cond (eqb version 1) 6 4) (cond (eqb code 8) (cond (eqb version 1) 6 0) (cond (eqb code 10) 4 0)))))
+
+-- and how many its response has, at the version after it: of versions 1 and 2 GET_INFO five and four, GET_FLASH_INFO (3) eight and four, a create two and
+-- six; no other has one
+abbrev pub responseBytes : ℕ → ℕ → ℕ
+responseBytes version code =
+    cond (eqb version 1) (cond (eqb code 2) 5 (cond (eqb code 3) 8 (cond (isCreate code) 2 0)))
+    (cond (eqb version 2) (cond (eqb code 2) 4 (cond (eqb code 3) 4 (cond (isCreate code) 6 0))) 0)
+
+-- those bytes, from the registers that the mediator leaves: the arguments from 0 on, but GET_INFO's of version 2 are arguments 0 and 5 to 7: "0 version, 5 the
+-- shift 12, 6-7 T" (01)
+abbrev pub said : ℕ → ℕ → List ℕ → List ℕ
+said version code registers =
+    cond (eqb code 2 && eqb version 2) (getD registers 2 0 ∷ getD registers 7 0 ∷ getD registers 8 0 ∷ getD registers 9 0 ∷ [])
+    (range 2 (responseBytes version code) registers)
 
 -- "a known command at its version"; a version above 2 does not exist, and knows none
 abbrev pub knownAt : ℕ → ℕ → Bool
@@ -48,13 +64,24 @@ pub record Refused (code : ℕ) (message : List ℕ) (m : Machine) (s : Served) 
   pub three : length (s .response) ≡ 3
   pub completion : getD (s .response) 2 0 ≡ code
 
--- "call the mediator": with the hiomap command, its number, and the parameter bytes as arguments, 11 at most and zero behind them. What the response has behind
--- the completion code is `SameByMessage`'s, for the length that the command has
-pub record Mediated (setup : Setup) (message : List ℕ) (m : Machine) (s : Served) : Type 0 where
-  pub machine : s .machine ≡ mediate setup (getD message 2 0 ∷ getD message 3 0 ∷ (padded (drop 4 message) ++ (0 ∷ 0 ∷ 0 ∷ []))) m .machine
-  pub actions : s .actions ≡ mediate setup (getD message 2 0 ∷ getD message 3 0 ∷ (padded (drop 4 message) ++ (0 ∷ 0 ∷ 0 ∷ []))) m .actions
+-- "call the mediator": with the hiomap command, its number, and the parameter bytes as arguments, 11 at most and zero behind them
+abbrev pub asMailbox : List ℕ → List ℕ
+asMailbox message = getD message 2 0 ∷ getD message 3 0 ∷ (padded (drop 4 message) ++ (0 ∷ 0 ∷ 0 ∷ []))
+
+-- "Status 1 becomes completion code 00; any other status s becomes 80 hex + s (house), in three bytes"; with 00 come the hiomap command, its number and the
+-- response's parameters, of the version after the command
+pub record Mediated (message : List ℕ) (o : Outcome) (s : Served) : Type 0 where
+  pub machine : s .machine ≡ o .machine
+  pub actions : s .actions ≡ o .actions
   pub heads : Heads message (s .response)
-  pub three : 3 ≤ length (s .response)
+  pub success : getD (o .registers) 13 0 ≡ 1
+      → (getD (s .response) 2 0 ≡ 0x00)
+      × (getD (s .response) 3 0 ≡ getD message 2 0)
+      × (getD (s .response) 4 0 ≡ getD message 3 0)
+      × (drop 5 (s .response) ≡ said (o .machine .session .version) (getD message 2 0) (o .registers))
+      × (5 ≤ length (s .response))
+  pub refused : (getD (o .registers) 13 0 ≡ 1 → ⊥)
+      → (length (s .response) ≡ 3) × (getD (s .response) 2 0 ≡ 0x80 + getD (o .registers) 13 0)
 
 -- "Refusals, in order: under two bytes, the empty response; foreign pair, C1 hex; under four bytes, or a wrong length for a known command at its version, C7
 -- hex"; "A command unknown at the version goes to the mediator at any length". Of every message, session and buffer, sound or not
@@ -68,4 +95,4 @@ AnsweredAsSaid =
     → (length message ≡ 4 + parameterBytes (m .session .version) (getD message 2 0) → ⊥) → Refused 0xc7 message m (served setup pair message m))
     × (4 ≤ length message → Own pair message
     → (knownAt (m .session .version) (getD message 2 0) ≡ true → length message ≡ 4 + parameterBytes (m .session .version) (getD message 2 0))
-    → Mediated setup message m (served setup pair message m))
+    → Mediated message (mediate setup (asMailbox message) m) (served setup pair message m))

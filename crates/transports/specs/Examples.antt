@@ -110,7 +110,7 @@ refusals =
     ∷ (0xe8 ∷ 0x5a ∷ 0x00 ∷ 0x02 ∷ replicate 12 0xff gets 0xec ∷ 0x5a ∷ 0x82 ∷ [])
     ∷ []
 
--- a version that does not exist: SYSTEM_ERROR at any length
+-- a version that does not exist: SYSTEM_ERROR at any length from four bytes on
 abbrev pub unsound : List Line
 unsound =
     (0xe8 ∷ 0x5a ∷ 0x02 ∷ 0x01 ∷ [] gets 0xec ∷ 0x5a ∷ 0x84 ∷ [])
@@ -127,5 +127,6 @@ examples =
     ∷ record { session = withVersion 3 fresh; lines = unsound }
     ∷ []
 
+-- the claim: every line of every example holds
 abbrev pub MessagesHold : Type 0
 MessagesHold = holdAll examples ≡ true

@@ -24,10 +24,12 @@ abbrev pub hasRoom : List Parameter → Bool
 hasRoom [] = true
 hasRoom (p ∷ ps) = leb (p .mailbox + p .size) 11 && hasRoom ps
 
+-- both, of what a command is sent and answered
 abbrev pub IsLaidOut : Option Row → Type 0
 IsLaidOut none = Unit
 IsLaidOut (some r) =
     (isPacked 0 (r .request) ≡ true) × (isPacked 0 (r .response) ≡ true) × (hasRoom (r .request) ≡ true) × (hasRoom (r .response) ≡ true)
 
+-- the claim, of every row
 abbrev pub RowsAreLaidOut : Type 0
 RowsAreLaidOut = (code version : ℕ) → IsLaidOut (rowOf code version)

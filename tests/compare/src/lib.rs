@@ -1,4 +1,4 @@
-//! The proved libraries as Rust sees them: the C boundary of the crate `board`, wrapped in safe functions, and in `kcs` that of `kcsboard`.
+//! The proved libraries as Rust sees them: the C boundary of the crates `board` and `ipmiboard`, wrapped in safe functions, and in `kcs` that of `kcsboard`.
 
 pub mod kcs;
 pub mod messages;

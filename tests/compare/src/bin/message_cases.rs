@@ -216,7 +216,7 @@ fn unknown(side: Side) {
     }
 }
 
-/// What makes a record or the board unsound, or keeps it at its edge. The last six records stand for no session.
+/// What makes a record or the board unsound, or keeps it at its edge. The last five records stand for no session.
 type Change = fn(&mut Machine);
 const UNSOUND: [(&str, Change); 22] = [
     ("nothing", |_| {}),

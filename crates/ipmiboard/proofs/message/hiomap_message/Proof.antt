@@ -45,7 +45,7 @@ use denote.Triple.Table.{entered, cited}
 use denote.Triple.Walked.{says, needs, Stays, stay-ref, stay-dropped, gave-slice, walkOf, AllGo, goes-ref, goes-dropped, goes-gave-slice, Walks, ends-at, walked, walk-meets}
 use denote.Exit.{yes}
 use Rattle.board.specs.Calls.{board}
-use Rattle.ipmiboard.specs.Messages.{pairOf, tellsMessage, messagedRecord}
+use Rattle.ipmiboard.specs.Messages.{tellsMessage, messagedRecord}
 use Rattle.board.specs.declared.Record.{Record}
 use Rattle.board.proofs.Record as Record-t
 use Rattle.board.proofs.Record.Laws as Record-l
@@ -94,7 +94,7 @@ module _ {M : Type 1} (𝓤 : URA M) (H : Heap 𝓤) (A : Atoms 𝓤) (W : Given
 
   -- what `serve_message` ensures
   abbrev Ensures : ServedMessage → List ℕ → List ℕ → Type 0
-  Ensures r zs₆ zs₇ = tellsMessage r zs₆ zs₇ ≡ messagedRecord (board h₄ h₅) (pairOf h₁ h₂) (h₃ .now) h₀ (h₆ .now) (h₇ .now)
+  Ensures r zs₆ zs₇ = tellsMessage r zs₆ zs₇ ≡ messagedRecord (board h₄ h₅) (record { netfn = h₁; command = h₂ }) (h₃ .now) h₀ (h₆ .now) (h₇ .now)
 
   -- the end: [obs 0; borrow 0; κ₀'s token; lent; last 6; last 7]
   exits : (r : ServedMessage) (zs₆ zs₇ : List ℕ) → Ensures r zs₆ zs₇ → length zs₆ ≡ length (h₆ .now) → length zs₇ ≡ length (h₇ .now) → Is MessageReply-t.the-row (r .reply) (LL.val MessageReply-t.the-type MessageReply-l.the-laws (r .reply) ∷ [])

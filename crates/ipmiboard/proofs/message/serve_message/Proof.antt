@@ -4,7 +4,7 @@ use borrow.Author.Needs.{needs}
 use Rattle.messages.specs.declared.Response.{Response}
 use Rattle.ipmiboard.specs.declared.message.ServedMessage.{ServedMessage}
 use Rattle.board.specs.Calls.{board}
-use Rattle.ipmiboard.specs.Messages.{pairOf, replyOf, tellsMessage}
+use Rattle.ipmiboard.specs.Messages.{replyOf, tellsMessage}
 use Rattle.ipmiboard.proofs.Messaging.{messaged-command, messaged-refused}
 use Rattle.ipmiboard.proofs.message.serve_message.Statement.{statement}
 use Rattle.ipmiboard.proofs.message.serve_message.Tie as tie
@@ -35,7 +35,7 @@ returns c =
     let opens = c .before .before .before .before .before .before .before .before .before .before .open-message in
     let a = c .before .before .before .before .before .before .before .before .before .before .before .before .before .before .args in
     c .before .before .before .before .serve-command .ensures
-    ∙ messaged-command (board (a .lpc) (a .timeout)) (pairOf (a .netfn) (a .command)) (a .message .now) (a .held) (a .flash .now) (a .memory .now)
+    ∙ messaged-command (board (a .lpc) (a .timeout)) (record { netfn = a .netfn; command = a .command }) (a .message .now) (a .held) (a .flash .now) (a .memory .now)
     (opens .result) (opens .ensures) (c .before .before .before .before .before .before .before .enum-told .given .1)
 
 returns-2 : tie.Need-returns-2
@@ -46,7 +46,7 @@ returns-2 c =
     let memory = a .memory .now in
     ap (λ (r : ServedMessage). tellsMessage r flash memory) (c .with-response .ensures)
     ∙ ap (λ (p : Response). tellsMessage (record { held = a .held; reply = replyOf p 0 }) flash memory) (c .before .refuse .ensures)
-    ∙ messaged-refused (board (a .lpc) (a .timeout)) (pairOf (a .netfn) (a .command)) (a .message .now) (a .held) flash memory
+    ∙ messaged-refused (board (a .lpc) (a .timeout)) (record { netfn = a .netfn; command = a .command }) (a .message .now) (a .held) flash memory
     (opens .result) (opens .ensures) (c .before .before .match .keys2)
 
 pub serve-message-spec : {M : Type 1} → statement M
