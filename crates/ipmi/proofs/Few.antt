@@ -15,7 +15,7 @@ use Rattle.messages.specs.declared.Taken.the-variants.{Short, Foreign, Malforme
 use Rattle.messages.specs.Lengths.{told}
 use Rattle.messages.specs.Messages.{takenAs, registersOf, headed, completionOf, valuesOf, statusOf, responseOf}
 use Rattle.messages.specs.Parameters.{Row, table, rowOf}
-use Rattle.messages.proofs.Rows.{each-row, packed-long}
+use Rattle.messages.proofs.Rows.{_&_, each-row, packed-long}
 use Rattle.mailbox.specs.Mediator.{mediate}
 use Rattle.ipmi.specs.Served.{Served, servedAs, FewBytes}
 use Rattle.ipmi.proofs.Serving.{served-as}
@@ -25,70 +25,9 @@ use Rattle.ipmi.proofs.Told.{mediate-answers, answers-long}
 few-told : (code version : ℕ) → leb (told (rowOf code version)) 11 ≡ true
 unfolding table
 few-told =
-    each-row (λ (code : ℕ) (version : ℕ) (o : Option Row). leb (told o) 11 ≡ true) (
-      refl,
-      (
-        refl,
-        (
-          refl,
-          (
-            refl,
-            (
-              refl,
-              (
-                refl,
-                (
-                  refl,
-                  (
-                    refl,
-                    (
-                      refl,
-                      (
-                        refl,
-                        (
-                          refl,
-                          (
-                            refl,
-                            (
-                              refl,
-                              (
-                                refl,
-                                (
-                                  refl,
-                                  (
-                                    refl,
-                                    (
-                                      refl,
-                                      (
-                                        refl,
-                                        (
-                                          refl,
-                                          (
-                                            refl,
-                                            (
-                                              refl,
-                                              (refl, tt),
-                                            ),
-                                          ),
-                                        ),
-                                      ),
-                                    ),
-                                  ),
-                                ),
-                              ),
-                            ),
-                          ),
-                        ),
-                      ),
-                    ),
-                  ),
-                ),
-              ),
-            ),
-          ),
-        ),
-      ),
-    )
+    each-row (λ (code : ℕ) (version : ℕ) (o : Option Row). leb (told o) 11 ≡ true)
+    (refl & refl & refl & refl & refl & refl & refl & refl & refl & refl & refl & refl & refl & refl & refl & refl & refl & refl & refl & refl
+    & refl & refl & tt)
     (λ _ _. refl)
 
 few-responded : (version : ℕ) (message registers : List ℕ) → length registers ≡ 16 → length (responseOf version message registers) ≤ 16

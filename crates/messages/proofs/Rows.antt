@@ -18,6 +18,11 @@ abbrev pub Every : (ℕ → ℕ → Option Row → Type 0) → List Row → Type
 Every P [] = Unit
 Every P (r ∷ rows) = P (r .code) (r .version) (some r) × Every P rows
 
+infixr 40 _&_
+-- an answer for each row, one after the other
+abbrev pub _&_ : {A B : Type 0} → A → B → A × B
+a & b = (a, b)
+
 each-in : (P : ℕ → ℕ → Option Row → Type 0) (rows : List Row) → Every P rows → ((code version : ℕ) → P code version none)
     → (code version : ℕ) → P code version (rowIn rows code version)
 each-in P [] e n code version = n code version
@@ -40,67 +45,9 @@ each-row P e n code version = each-in P table e n code version
 pub known-asked : (code version : ℕ) → eqb (asked (rowOf code version)) 255 ≡ not (isRow (rowOf code version))
 unfolding table
 known-asked =
-    each-row (λ (code : ℕ) (version : ℕ) (o : Option Row). eqb (asked o) 255 ≡ not (isRow o)) (
-      refl,
-      (
-        refl,
-        (
-          refl,
-          (
-            refl,
-            (
-              refl,
-              (
-                refl,
-                (
-                  refl,
-                  (
-                    refl,
-                    (
-                      refl,
-                      (
-                        refl,
-                        (
-                          refl,
-                          (
-                            refl,
-                            (
-                              refl,
-                              (
-                                refl,
-                                (
-                                  refl,
-                                  (
-                                    refl,
-                                    (
-                                      refl,
-                                      (
-                                        refl,
-                                        (
-                                          refl,
-                                          (
-                                            refl,
-                                            (refl, (refl, tt)),
-                                          ),
-                                        ),
-                                      ),
-                                    ),
-                                  ),
-                                ),
-                              ),
-                            ),
-                          ),
-                        ),
-                      ),
-                    ),
-                  ),
-                ),
-              ),
-            ),
-          ),
-        ),
-      ),
-    )
+    each-row (λ (code : ℕ) (version : ℕ) (o : Option Row). eqb (asked o) 255 ≡ not (isRow o))
+    (refl & refl & refl & refl & refl & refl & refl & refl & refl & refl & refl & refl & refl & refl & refl & refl & refl & refl & refl & refl
+    & refl & refl & tt)
     (λ _ _. refl)
 
 pub wrong-as : (o : Option Row) (count : ℕ) → eqb (asked o) 255 ≡ not (isRow o)
@@ -113,119 +60,24 @@ pub told-nothing : (code version : ℕ) → (code ≡ 2 → ⊥) → (code ≡ 3
 unfolding table
 told-nothing =
     each-row
-    (λ (code : ℕ) (version : ℕ) (o : Option Row). (code ≡ 2 → ⊥) → (code ≡ 3 → ⊥) → (code ≡ 4 → ⊥) → (code ≡ 6 → ⊥) → told o ≡ 0) (
-      (λ n2 n3 n4 n6. refl),
-      (
-        (λ n2 n3 n4 n6. refl),
-        (
-          (λ n2 n3 n4 n6. refl),
-          (
-            (λ n2 n3 n4 n6. absurd (n2 refl)),
-            (
-              (λ n2 n3 n4 n6. absurd (n2 refl)),
-              (
-                (λ n2 n3 n4 n6. absurd (n2 refl)),
-                (
-                  (λ n2 n3 n4 n6. absurd (n3 refl)),
-                  (
-                    (λ n2 n3 n4 n6. absurd (n3 refl)),
-                    (
-                      (λ n2 n3 n4 n6. absurd (n4 refl)),
-                      (
-                        (λ n2 n3 n4 n6. absurd (n4 refl)),
-                        (
-                          (λ n2 n3 n4 n6. refl),
-                          (
-                            (λ n2 n3 n4 n6. refl),
-                            (
-                              (λ n2 n3 n4 n6. absurd (n6 refl)),
-                              (
-                                (λ n2 n3 n4 n6. absurd (n6 refl)),
-                                (
-                                  (λ n2 n3 n4 n6. refl),
-                                  (
-                                    (λ n2 n3 n4 n6. refl),
-                                    (
-                                      (λ n2 n3 n4 n6. refl),
-                                      (
-                                        (λ n2 n3 n4 n6. refl),
-                                        ((λ n2 n3 n4 n6. refl), ((λ n2 n3 n4 n6. refl), ((λ n2 n3 n4 n6. refl), ((λ n2 n3 n4 n6. refl), tt)))),
-                                      ),
-                                    ),
-                                  ),
-                                ),
-                              ),
-                            ),
-                          ),
-                        ),
-                      ),
-                    ),
-                  ),
-                ),
-              ),
-            ),
-          ),
-        ),
-      ),
-    )
+    (λ (code : ℕ) (version : ℕ) (o : Option Row). (code ≡ 2 → ⊥) → (code ≡ 3 → ⊥) → (code ≡ 4 → ⊥) → (code ≡ 6 → ⊥) → told o ≡ 0)
+    ((λ n2 n3 n4 n6. refl) & (λ n2 n3 n4 n6. refl) & (λ n2 n3 n4 n6. refl) & (λ n2 n3 n4 n6. absurd (n2 refl)) & (λ n2 n3 n4 n6. absurd (n2 refl))
+    & (λ n2 n3 n4 n6. absurd (n2 refl)) & (λ n2 n3 n4 n6. absurd (n3 refl)) & (λ n2 n3 n4 n6. absurd (n3 refl)) & (λ n2 n3 n4 n6. absurd (n4 refl))
+    & (λ n2 n3 n4 n6. absurd (n4 refl)) & (λ n2 n3 n4 n6. refl) & (λ n2 n3 n4 n6. refl) & (λ n2 n3 n4 n6. absurd (n6 refl))
+    & (λ n2 n3 n4 n6. absurd (n6 refl)) & (λ n2 n3 n4 n6. refl) & (λ n2 n3 n4 n6. refl) & (λ n2 n3 n4 n6. refl) & (λ n2 n3 n4 n6. refl)
+    & (λ n2 n3 n4 n6. refl) & (λ n2 n3 n4 n6. refl) & (λ n2 n3 n4 n6. refl) & (λ n2 n3 n4 n6. refl) & tt)
     (λ _ _ n2 n3 n4 n6. refl)
 
 -- nor has one at another version than 1 and 2
 pub told-elsewhere : (code version : ℕ) → (version ≡ 1 → ⊥) → (version ≡ 2 → ⊥) → told (rowOf code version) ≡ 0
 unfolding table
 told-elsewhere =
-    each-row (λ (code : ℕ) (version : ℕ) (o : Option Row). (version ≡ 1 → ⊥) → (version ≡ 2 → ⊥) → told o ≡ 0) (
-      (λ n1 n2. refl),
-      (
-        (λ n1 n2. absurd (n1 refl)),
-        (
-          (λ n1 n2. absurd (n2 refl)),
-          (
-            (λ n1 n2. refl),
-            (
-              (λ n1 n2. absurd (n1 refl)),
-              (
-                (λ n1 n2. absurd (n2 refl)),
-                (
-                  (λ n1 n2. absurd (n1 refl)),
-                  (
-                    (λ n1 n2. absurd (n2 refl)),
-                    (
-                      (λ n1 n2. absurd (n1 refl)),
-                      (
-                        (λ n1 n2. absurd (n2 refl)),
-                        (
-                          (λ n1 n2. absurd (n1 refl)),
-                          (
-                            (λ n1 n2. absurd (n2 refl)),
-                            (
-                              (λ n1 n2. absurd (n1 refl)),
-                              (
-                                (λ n1 n2. absurd (n2 refl)),
-                                (
-                                  (λ n1 n2. absurd (n1 refl)),
-                                  (
-                                    (λ n1 n2. absurd (n2 refl)),
-                                    (
-                                      (λ n1 n2. absurd (n1 refl)),
-                                      ((λ n1 n2. absurd (n2 refl)), ((λ n1 n2. refl), ((λ n1 n2. absurd (n1 refl)), ((λ n1 n2. absurd (n2 refl)), ((λ n1 n2. absurd (n2 refl)), tt))))),
-                                    ),
-                                  ),
-                                ),
-                              ),
-                            ),
-                          ),
-                        ),
-                      ),
-                    ),
-                  ),
-                ),
-              ),
-            ),
-          ),
-        ),
-      ),
-    )
+    each-row (λ (code : ℕ) (version : ℕ) (o : Option Row). (version ≡ 1 → ⊥) → (version ≡ 2 → ⊥) → told o ≡ 0)
+    ((λ n1 n2. refl) & (λ n1 n2. absurd (n1 refl)) & (λ n1 n2. absurd (n2 refl)) & (λ n1 n2. refl) & (λ n1 n2. absurd (n1 refl))
+    & (λ n1 n2. absurd (n2 refl)) & (λ n1 n2. absurd (n1 refl)) & (λ n1 n2. absurd (n2 refl)) & (λ n1 n2. absurd (n1 refl))
+    & (λ n1 n2. absurd (n2 refl)) & (λ n1 n2. absurd (n1 refl)) & (λ n1 n2. absurd (n2 refl)) & (λ n1 n2. absurd (n1 refl))
+    & (λ n1 n2. absurd (n2 refl)) & (λ n1 n2. absurd (n1 refl)) & (λ n1 n2. absurd (n2 refl)) & (λ n1 n2. absurd (n1 refl))
+    & (λ n1 n2. absurd (n2 refl)) & (λ n1 n2. refl) & (λ n1 n2. absurd (n1 refl)) & (λ n1 n2. absurd (n2 refl)) & (λ n1 n2. absurd (n2 refl)) & tt)
     (λ _ _ n1 n2. refl)
 
 -- ---- a request: its parameters' two offsets are the same, so that it is unpacked byte by byte
@@ -256,43 +108,9 @@ pub unpacked-as : (code version : ℕ) (given : List ℕ) → wrongLength (rowOf
 unfolding table
 unpacked-as =
     each-row
-    (λ (code : ℕ) (version : ℕ) (o : Option Row). (given : List ℕ) → wrongLength o (length given) ≡ false → argumentsOf o given ≡ padded given) (
-      unpacks-n,
-      (
-        unpacks-n,
-        (
-          unpacks-n,
-          (
-            unpacks-y,
-            (
-              unpacks-y,
-              (
-                unpacks-y,
-                (
-                  unpacks-n,
-                  (
-                    unpacks-n,
-                    (
-                      unpacks-q,
-                      (
-                        unpacks-qq,
-                        (
-                          unpacks-n,
-                          (
-                            unpacks-y,
-                            (unpacks-q, (unpacks-qq, (unpacks-qu, (unpacks-qq, (unpacks-qu, (unpacks-n, (unpacks-y, (unpacks-y, (unpacks-y, (unpacks-qq, tt)))))))))),
-                          ),
-                        ),
-                      ),
-                    ),
-                  ),
-                ),
-              ),
-            ),
-          ),
-        ),
-      ),
-    )
+    (λ (code : ℕ) (version : ℕ) (o : Option Row). (given : List ℕ) → wrongLength o (length given) ≡ false → argumentsOf o given ≡ padded given)
+    (unpacks-n & unpacks-n & unpacks-n & unpacks-y & unpacks-y & unpacks-y & unpacks-n & unpacks-n & unpacks-q & unpacks-qq & unpacks-n & unpacks-y
+    & unpacks-q & unpacks-qq & unpacks-qu & unpacks-qq & unpacks-qu & unpacks-n & unpacks-y & unpacks-y & unpacks-y & unpacks-qq & tt)
     (λ _ _ given e. refl)
 
 -- ---- a response
@@ -345,52 +163,10 @@ unfolding table
 packed-as =
     each-row
     (λ (code : ℕ) (version : ℕ) (o : Option Row). (code ≡ 2 → version ≡ 2 → ⊥) → (registers : List ℕ) → length registers ≡ 16
-    → padded (valuesOf o registers) ≡ front (told o) registers) (
-      (λ _. packs-n),
-      (
-        (λ _. packs-n),
-        (
-          (λ _. packs-n),
-          (
-            (λ _. packs-n),
-            (
-              (λ _. packs-info1),
-              (
-                (λ n. absurd (n refl refl)),
-                (
-                  (λ _. packs-uu),
-                  (
-                    (λ _. packs-qq),
-                    (
-                      (λ _. packs-q),
-                      (
-                        (λ _. packs-qqq),
-                        (
-                          (λ _. packs-n),
-                          (
-                            (λ _. packs-n),
-                            (
-                              (λ _. packs-q),
-                              (
-                                (λ _. packs-qqq),
-                                (
-                                  (λ _. packs-n),
-                                  ((λ _. packs-n), ((λ _. packs-n), ((λ _. packs-n), ((λ _. packs-n), ((λ _. packs-n), ((λ _. packs-n), ((λ _. packs-n), tt))))))),
-                                ),
-                              ),
-                            ),
-                          ),
-                        ),
-                      ),
-                    ),
-                  ),
-                ),
-              ),
-            ),
-          ),
-        ),
-      ),
-    )
+    → padded (valuesOf o registers) ≡ front (told o) registers)
+    ((λ _. packs-n) & (λ _. packs-n) & (λ _. packs-n) & (λ _. packs-n) & (λ _. packs-info1) & (λ n. absurd (n refl refl)) & (λ _. packs-uu)
+    & (λ _. packs-qq) & (λ _. packs-q) & (λ _. packs-qqq) & (λ _. packs-n) & (λ _. packs-n) & (λ _. packs-q) & (λ _. packs-qqq) & (λ _. packs-n)
+    & (λ _. packs-n) & (λ _. packs-n) & (λ _. packs-n) & (λ _. packs-n) & (λ _. packs-n) & (λ _. packs-n) & (λ _. packs-n) & tt)
     (λ _ _ _ registers l. refl)
 
 -- and GET_INFO's are those of 000: M 0, 5, 6 and 7
@@ -434,68 +210,8 @@ pub packed-long : (code version : ℕ) (registers : List ℕ) → length registe
 unfolding table
 packed-long =
     each-row
-    (λ (code : ℕ) (version : ℕ) (o : Option Row). (registers : List ℕ) → length registers ≡ 16 → length (valuesOf o registers) ≡ told o) (
-      measures-n,
-      (
-        measures-n,
-        (
-          measures-n,
-          (
-            measures-n,
-            (
-              measures-info1,
-              (
-                measures-info2,
-                (
-                  measures-uu,
-                  (
-                    measures-qq,
-                    (
-                      measures-q,
-                      (
-                        measures-qqq,
-                        (
-                          measures-n,
-                          (
-                            measures-n,
-                            (
-                              measures-q,
-                              (
-                                measures-qqq,
-                                (
-                                  measures-n,
-                                  (
-                                    measures-n,
-                                    (
-                                      measures-n,
-                                      (
-                                        measures-n,
-                                        (
-                                          measures-n,
-                                          (
-                                            measures-n,
-                                            (
-                                              measures-n,
-                                              (measures-n, tt),
-                                            ),
-                                          ),
-                                        ),
-                                      ),
-                                    ),
-                                  ),
-                                ),
-                              ),
-                            ),
-                          ),
-                        ),
-                      ),
-                    ),
-                  ),
-                ),
-              ),
-            ),
-          ),
-        ),
-      ),
-    )
+    (λ (code : ℕ) (version : ℕ) (o : Option Row). (registers : List ℕ) → length registers ≡ 16 → length (valuesOf o registers) ≡ told o)
+    (measures-n & measures-n & measures-n & measures-n & measures-info1 & measures-info2 & measures-uu & measures-qq & measures-q & measures-qqq
+    & measures-n & measures-n & measures-q & measures-qqq & measures-n & measures-n & measures-n & measures-n & measures-n & measures-n & measures-n
+    & measures-n & tt)
     (λ _ _ registers l. refl)

@@ -17,7 +17,7 @@ use Rattle.messages.specs.declared.Pair.{Pair}
 use Rattle.messages.specs.declared.Taken.the-variants.{Short, Foreign, Malformed, Command}
 use Rattle.messages.specs.Messages.{isOwn, wrongLength, takenAs, registersOf, headed, statusOf, completionOf, valuesOf, responseOf}
 use Rattle.messages.specs.Parameters.{Row, table, rowOf, isRow}
-use Rattle.messages.proofs.Rows.{each-row, unpacked-as}
+use Rattle.messages.proofs.Rows.{_&_, each-row, unpacked-as}
 use Rattle.mailbox.specs.Commands.{Outcome}
 use Rattle.mailbox.specs.Mediator.{mediate}
 use Rattle.ipmi.specs.Served.{Served, untouched, mediated}
@@ -110,61 +110,9 @@ wrong-row : (count code version : ℕ) → wrongLength (rowOf code version) coun
 unfolding table
 wrong-row count =
     each-row
-    (λ (code : ℕ) (version : ℕ) (o : Option Row). wrongLength o count ≡ (isRow o && not (eqb count (parameterBytes version code)))) (
-      refl,
-      (
-        refl,
-        (
-          refl,
-          (
-            refl,
-            (
-              refl,
-              (
-                refl,
-                (
-                  refl,
-                  (
-                    refl,
-                    (
-                      refl,
-                      (
-                        refl,
-                        (
-                          refl,
-                          (
-                            refl,
-                            (
-                              refl,
-                              (
-                                refl,
-                                (
-                                  refl,
-                                  (
-                                    refl,
-                                    (
-                                      refl,
-                                      (
-                                        refl,
-                                        (refl, (refl, (refl, (refl, tt)))),
-                                      ),
-                                    ),
-                                  ),
-                                ),
-                              ),
-                            ),
-                          ),
-                        ),
-                      ),
-                    ),
-                  ),
-                ),
-              ),
-            ),
-          ),
-        ),
-      ),
-    )
+    (λ (code : ℕ) (version : ℕ) (o : Option Row). wrongLength o count ≡ (isRow o && not (eqb count (parameterBytes version code))))
+    (refl & refl & refl & refl & refl & refl & refl & refl & refl & refl & refl & refl & refl & refl & refl & refl & refl & refl & refl & refl
+    & refl & refl & tt)
     (λ _ _. refl)
 
 wrong-at : (count code version : ℕ) → wrongLength (rowOf code version) count ≡ (knownAt version code && not (eqb count (parameterBytes version code)))

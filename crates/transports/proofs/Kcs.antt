@@ -20,7 +20,7 @@ use Rattle.messages.specs.declared.Taken.{Taken}
 use Rattle.messages.specs.Messages.{headed, completionOf, valuesOf, statusOf, takenAs, registersOf, responseOf}
 use Rattle.messages.specs.Parameters.{Row, table, rowOf}
 use Rattle.messages.proofs.Passing.{each-taken}
-use Rattle.messages.proofs.Rows.{each-row}
+use Rattle.messages.proofs.Rows.{_&_, each-row}
 use Rattle.mailbox.specs.Mediator.{mediate}
 use Rattle.mailbox.specs.Runs.{calledAll}
 use Rattle.ipmi.specs.Served.{Served, servedAs, served}
@@ -72,67 +72,9 @@ few-given code version registers l =
   where
     explicit : (code version : ℕ) → leb (length (givenBy (rowOf code version) (elements 16 0 registers))) 11 ≡ true
     explicit =
-        each-row (λ (code : ℕ) (version : ℕ) (o : Option Row). leb (length (givenBy o (elements 16 0 registers))) 11 ≡ true) (
-          refl,
-          (
-            refl,
-            (
-              refl,
-              (
-                refl,
-                (
-                  refl,
-                  (
-                    refl,
-                    (
-                      refl,
-                      (
-                        refl,
-                        (
-                          refl,
-                          (
-                            refl,
-                            (
-                              refl,
-                              (
-                                refl,
-                                (
-                                  refl,
-                                  (
-                                    refl,
-                                    (
-                                      refl,
-                                      (
-                                        refl,
-                                        (
-                                          refl,
-                                          (
-                                            refl,
-                                            (
-                                              refl,
-                                              (
-                                                refl,
-                                                (refl, (refl, tt)),
-                                              ),
-                                            ),
-                                          ),
-                                        ),
-                                      ),
-                                    ),
-                                  ),
-                                ),
-                              ),
-                            ),
-                          ),
-                        ),
-                      ),
-                    ),
-                  ),
-                ),
-              ),
-            ),
-          ),
-        )
+        each-row (λ (code : ℕ) (version : ℕ) (o : Option Row). leb (length (givenBy o (elements 16 0 registers))) 11 ≡ true)
+        (refl & refl & refl & refl & refl & refl & refl & refl & refl & refl & refl & refl & refl & refl & refl & refl & refl & refl & refl & refl
+        & refl & refl & tt)
         (λ _ _. refl)
 
 pub kcs-as-mailbox : KcsAsMailbox

@@ -7,7 +7,7 @@ use native.Mathlib.Omega.{arith}
 use lib.Dec.{eqb, leb}
 use borrow.Author.Tests.{ne-eqb, leb-true, lt-leb}
 use Rattle.messages.specs.Parameters.{Row, table, rowOf, isKnown}
-use Rattle.messages.proofs.Rows.{each-row}
+use Rattle.messages.proofs.Rows.{_&_, each-row}
 use Rattle.invariants.specs.Codes.{knows}
 use Rattle.transports.specs.Known.{IsLaidOut, KnownAsSaid, RowsAreLaidOut}
 
@@ -68,59 +68,10 @@ known-as-said code version = ((λ h. to-two code version (omega arith)), (λ h. 
 pub rows-are-laid-out : RowsAreLaidOut
 unfolding table
 rows-are-laid-out =
-    each-row (λ (code : ℕ) (version : ℕ) (o : Option Row). IsLaidOut o) (
-      (refl, refl, refl, refl),
-      (
-        (refl, refl, refl, refl),
-        (
-          (refl, refl, refl, refl),
-          (
-            (refl, refl, refl, refl),
-            (
-              (refl, refl, refl, refl),
-              (
-                (refl, refl, refl, refl),
-                (
-                  (refl, refl, refl, refl),
-                  (
-                    (refl, refl, refl, refl),
-                    (
-                      (refl, refl, refl, refl),
-                      (
-                        (refl, refl, refl, refl),
-                        (
-                          (refl, refl, refl, refl),
-                          (
-                            (refl, refl, refl, refl),
-                            (
-                              (refl, refl, refl, refl),
-                              (
-                                (refl, refl, refl, refl),
-                                (
-                                  (refl, refl, refl, refl),
-                                  (
-                                    (refl, refl, refl, refl),
-                                    (
-                                      (refl, refl, refl, refl),
-                                      (
-                                        (refl, refl, refl, refl),
-                                        ((refl, refl, refl, refl), ((refl, refl, refl, refl), ((refl, refl, refl, refl), ((refl, refl, refl, refl), tt)))),
-                                      ),
-                                    ),
-                                  ),
-                                ),
-                              ),
-                            ),
-                          ),
-                        ),
-                      ),
-                    ),
-                  ),
-                ),
-              ),
-            ),
-          ),
-        ),
-      ),
-    )
+    each-row (λ (code : ℕ) (version : ℕ) (o : Option Row). IsLaidOut o)
+    ((refl, refl, refl, refl) & (refl, refl, refl, refl) & (refl, refl, refl, refl) & (refl, refl, refl, refl) & (refl, refl, refl, refl)
+    & (refl, refl, refl, refl) & (refl, refl, refl, refl) & (refl, refl, refl, refl) & (refl, refl, refl, refl) & (refl, refl, refl, refl)
+    & (refl, refl, refl, refl) & (refl, refl, refl, refl) & (refl, refl, refl, refl) & (refl, refl, refl, refl) & (refl, refl, refl, refl)
+    & (refl, refl, refl, refl) & (refl, refl, refl, refl) & (refl, refl, refl, refl) & (refl, refl, refl, refl) & (refl, refl, refl, refl)
+    & (refl, refl, refl, refl) & (refl, refl, refl, refl) & tt)
     (λ _ _. tt)

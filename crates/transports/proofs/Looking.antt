@@ -23,7 +23,7 @@ use Rattle.refusals.specs.declared.Reason.the-variants.{Accepted, System, Repea
 use Rattle.refusals.specs.Refusals.{reasonFor}
 use Rattle.messages.specs.Parameters.{Parameter, y, q, u, Row, row, table, rowOf}
 use Rattle.messages.specs.Messages.{argumentsOf}
-use Rattle.messages.proofs.Rows.{each-row}
+use Rattle.messages.proofs.Rows.{_&_, each-row}
 use Rattle.mailbox.specs.Commands.{Outcome, outcome, leaving, answered, numberedIn, infoArguments, informed, flashInformed}
 use Rattle.mailbox.specs.Commands.{hint, sizeFor, createArguments, opened, created}
 use Rattle.mailbox.specs.Table.{Command, reset, getInfo, getFlashInfo, createReadWindow, closeWindow, createWriteWindow, markDirty, flush, ack, erase, unknown}
@@ -235,62 +235,8 @@ erase-alike setup r s flash memory = obeyed-alike setup 10 (getD r 1 0) _ _ eras
 pub each-alike : (command version : ℕ) → Alike command version (rowOf command version)
 unfolding table
 each-alike =
-    each-row Alike (
-      reset-alike 0,
-      (
-        reset-alike 1,
-        (
-          reset-alike 2,
-          (
-            info-alike 0,
-            (
-              info-alike 1,
-              (
-                info-alike 2,
-                (
-                  flash1-alike,
-                  (
-                    flash2-alike,
-                    (
-                      read1-alike,
-                      (
-                        read2-alike,
-                        (
-                          close1-alike,
-                          (
-                            close2-alike,
-                            (
-                              write1-alike,
-                              (
-                                write2-alike,
-                                (
-                                  dirty1-alike,
-                                  (
-                                    dirty2-alike,
-                                    (
-                                      flush1-alike,
-                                      (
-                                        flush2-alike,
-                                        (
-                                          ack-alike 0,
-                                          (ack-alike 1, (ack-alike 2, (erase-alike, tt))),
-                                        ),
-                                      ),
-                                    ),
-                                  ),
-                                ),
-                              ),
-                            ),
-                          ),
-                        ),
-                      ),
-                    ),
-                  ),
-                ),
-              ),
-            ),
-          ),
-        ),
-      ),
-    )
+    each-row Alike
+    (reset-alike 0 & reset-alike 1 & reset-alike 2 & info-alike 0 & info-alike 1 & info-alike 2 & flash1-alike & flash2-alike & read1-alike
+    & read2-alike & close1-alike & close2-alike & write1-alike & write2-alike & dirty1-alike & dirty2-alike & flush1-alike & flush2-alike
+    & ack-alike 0 & ack-alike 1 & ack-alike 2 & erase-alike & tt)
     none-alike

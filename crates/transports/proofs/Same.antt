@@ -17,7 +17,7 @@ use Rattle.messages.specs.declared.Taken.the-variants.{Command}
 use Rattle.messages.specs.Parameters.{Parameter, y, q, u, Row, table, rowOf, bytesIn}
 use Rattle.messages.specs.Lengths.{told}
 use Rattle.messages.specs.Messages.{registersOf, headed, packedFrom, valuesOf, statusOf, completionOf, responseOf}
-use Rattle.messages.proofs.Rows.{each-row, packed-long}
+use Rattle.messages.proofs.Rows.{_&_, each-row, packed-long}
 use Rattle.mailbox.specs.Commands.{Outcome}
 use Rattle.mailbox.specs.Mediator.{mediate}
 use Rattle.ipmi.specs.Served.{Served, mediated}
@@ -80,70 +80,9 @@ module _ (a b : ℕ) (registers : List ℕ) (l : length registers ≡ 16) where
   laid-all : (command version : ℕ) → Stands (answers (rowOf command version)) registers
   unfolding table
   laid-all =
-      each-row (λ (command : ℕ) (version : ℕ) (o : Option Row). Stands (answers o) registers) (
-        tt,
-        (
-          tt,
-          (
-            tt,
-            (
-              tt,
-              (
-                laid-info1,
-                (
-                  laid-info2,
-                  (
-                    laid-uu,
-                    (
-                      laid-qq,
-                      (
-                        laid-q,
-                        (
-                          laid-qqq,
-                          (
-                            tt,
-                            (
-                              tt,
-                              (
-                                laid-q,
-                                (
-                                  laid-qqq,
-                                  (
-                                    tt,
-                                    (
-                                      tt,
-                                      (
-                                        tt,
-                                        (
-                                          tt,
-                                          (
-                                            tt,
-                                            (
-                                              tt,
-                                              (
-                                                tt,
-                                                (tt, tt),
-                                              ),
-                                            ),
-                                          ),
-                                        ),
-                                      ),
-                                    ),
-                                  ),
-                                ),
-                              ),
-                            ),
-                          ),
-                        ),
-                      ),
-                    ),
-                  ),
-                ),
-              ),
-            ),
-          ),
-        ),
-      )
+      each-row (λ (command : ℕ) (version : ℕ) (o : Option Row). Stands (answers o) registers)
+      (tt & tt & tt & tt & laid-info1 & laid-info2 & laid-uu & laid-qq & laid-q & laid-qqq & tt & tt & laid-q & laid-qqq & tt & tt & tt & tt & tt
+      & tt & tt & tt & tt)
       (λ _ _. tt)
 
 -- those of a row, or none

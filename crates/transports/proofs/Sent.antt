@@ -17,7 +17,7 @@ use Rattle.messages.specs.declared.Taken.the-variants.{Command}
 use Rattle.messages.specs.Parameters.{Parameter, y, q, u, Row, table, rowOf, bytesIn}
 use Rattle.messages.specs.Messages.{isOwn, wrongLength, takenAs, packedFrom, argumentsOf, registersOf}
 use Rattle.messages.proofs.Passing.{each-taken}
-use Rattle.messages.proofs.Rows.{each-row}
+use Rattle.messages.proofs.Rows.{_&_, each-row}
 use Rattle.mailbox.specs.Mediator.{mediate}
 use Rattle.transports.specs.Same.{givenBy, messageOf}
 use Rattle.transports.proofs.Looking.{seen, each-alike}
@@ -46,52 +46,9 @@ right-length : (command version : ℕ) (registers : List ℕ) → length registe
 unfolding table
 right-length =
     each-row
-    (λ (command : ℕ) (version : ℕ) (o : Option Row). (registers : List ℕ) → length registers ≡ 16 → wrongLength o (length (givenBy o registers)) ≡ false) (
-      right-n,
-      (
-        right-n,
-        (
-          right-n,
-          (
-            right-y,
-            (
-              right-y,
-              (
-                right-y,
-                (
-                  right-n,
-                  (
-                    right-n,
-                    (
-                      right-q,
-                      (
-                        right-qq,
-                        (
-                          right-n,
-                          (
-                            right-y,
-                            (
-                              right-q,
-                              (
-                                right-qq,
-                                (
-                                  right-qu,
-                                  (right-qq, (right-qu, (right-n, (right-y, (right-y, (right-y, (right-qq, tt))))))),
-                                ),
-                              ),
-                            ),
-                          ),
-                        ),
-                      ),
-                    ),
-                  ),
-                ),
-              ),
-            ),
-          ),
-        ),
-      ),
-    )
+    (λ (command : ℕ) (version : ℕ) (o : Option Row). (registers : List ℕ) → length registers ≡ 16 → wrongLength o (length (givenBy o registers)) ≡ false)
+    (right-n & right-n & right-n & right-y & right-y & right-y & right-n & right-n & right-q & right-qq & right-n & right-y & right-q & right-qq
+    & right-qu & right-qq & right-qu & right-n & right-y & right-y & right-y & right-qq & tt)
     (λ _ _ registers l. refl)
 
 -- ---- it is for the board's pair, with any LUN
