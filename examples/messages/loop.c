@@ -47,12 +47,15 @@ static const char *yes(bool answer) {
 
 /* ---- the board */
 
-static uint8_t waiting;  /* the length of a message that is not answered yet, else 0 */
+/* The length of a message that the board has not taken up yet, else 0. Volatile, for a board whose interrupt writes
+ * it. */
+static volatile uint8_t waiting;
 static uint32_t actions; /* the chip actions of the message that was served last */
 
 /* A turn of the board's loop, in which it gets to serve a message. It serves a copy, and answers only if no newer
- * message came meanwhile: that one's answer is awaited then. Where an interrupt takes the host's accesses it is held off
- * from the first test of `waiting` to the 0, and from the second to the end of the answer. Here nothing comes between. */
+ * message came meanwhile: that one's answer is awaited then. Where an interrupt takes the host's accesses it is held
+ * off from the first test of `waiting` to the 0, and from the second to the end of the answer. Here nothing comes in
+ * between. */
 static void board_turn(void) {
     if (waiting == 0)
         return;
@@ -64,7 +67,7 @@ static void board_turn(void) {
         hiomap_message(&session, NETFN, IPMI_COMMAND, (hiomap_const_bytes){message, length}, LPC_BLOCK, TIMEOUT,
                        (hiomap_bytes){flash, sizeof flash}, (hiomap_bytes){memory, sizeof memory});
     actions = reply.actions;
-    if (waiting == 0) /* false where the host has given up: what the message did stays done */
+    if (waiting == 0) /* where the host has given up it is refused; what the message did stays done */
         kcs_respond(&port, (kcs_bytes){reply.response, reply.length});
 }
 
