@@ -31,8 +31,8 @@ MessageByKcs =
     (setup : Setup) (pair : Pair) (message : List ℕ) (m : Machine) (turns : ℕ) (p : Port) → 1 ≤ length message → length message ≤ 64 → 16 < turns
     → Written message p × Read (served setup pair message m .response) turns (answeredTo setup pair message m p)
 
--- a host that waits for OBF already when the answer comes gets it too, if the message has two bytes or more: only a shorter one is answered with the empty response
--- (`EmptyRaces`, crate kcshost)
+-- a host that waits for OBF already when the answer comes gets it too, if the message has two bytes or more: only a shorter one is answered with the empty
+-- response (`EmptyRaces`, crate kcshost)
 abbrev pub AnswerGoesOn : Type 0
 AnswerGoesOn =
     (setup : Setup) (pair : Pair) (message : List ℕ) (m : Machine) (turns : ℕ) (p : Port) → 2 ≤ length message → length message ≤ 64
