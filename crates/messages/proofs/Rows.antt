@@ -9,7 +9,7 @@ use lib.ListN.{length, getD, replicate}
 use borrow.Author.Tests.{eqb-true, eq-eqb, not-false}
 use Rattle.units.proofs.Cases.{chosen, both}
 use Rattle.registers.specs.Registers.{padded}
-use Rattle.registers.proofs.Fields.{elements-of}
+use Rattle.registers.proofs.Fields.{elements, elements-of}
 use Rattle.messages.specs.Lengths.{asked, told}
 use Rattle.messages.specs.Messages.{wrongLength, unpacked, argumentsOf, packedFrom, valuesOf}
 use Rattle.messages.specs.Parameters.{Parameter, y, q, u, Row, table, rowIn, rowOf, isRow, bytesIn}
@@ -126,33 +126,6 @@ front count registers =
     ∷ upTo count 4 (getD registers 6 0) ∷ upTo count 5 (getD registers 7 0) ∷ upTo count 6 (getD registers 8 0) ∷ upTo count 7 (getD registers 9 0)
     ∷ upTo count 8 (getD registers 10 0) ∷ upTo count 9 (getD registers 11 0) ∷ upTo count 10 (getD registers 12 0) ∷ []
 
-abbrev Packs : List Parameter → Type 0
-Packs ps = (registers : List ℕ) → length registers ≡ 16 → padded (packedFrom ps registers) ≡ front (bytesIn ps) registers
-
-packs-n : Packs []
-packs-n registers l =
-    subst (λ (t : List ℕ). padded (packedFrom [] t) ≡ front (bytesIn []) t) (elements-of 16 registers l) refl
-
-packs-q : Packs (q 0 0 ∷ [])
-packs-q registers l =
-    subst (λ (t : List ℕ). padded (packedFrom (q 0 0 ∷ []) t) ≡ front (bytesIn (q 0 0 ∷ [])) t) (elements-of 16 registers l) refl
-
-packs-qq : Packs (q 0 0 ∷ q 2 2 ∷ [])
-packs-qq registers l =
-    subst (λ (t : List ℕ). padded (packedFrom (q 0 0 ∷ q 2 2 ∷ []) t) ≡ front (bytesIn (q 0 0 ∷ q 2 2 ∷ [])) t) (elements-of 16 registers l) refl
-
-packs-uu : Packs (u 0 0 ∷ u 4 4 ∷ [])
-packs-uu registers l =
-    subst (λ (t : List ℕ). padded (packedFrom (u 0 0 ∷ u 4 4 ∷ []) t) ≡ front (bytesIn (u 0 0 ∷ u 4 4 ∷ [])) t) (elements-of 16 registers l) refl
-
-packs-qqq : Packs (q 0 0 ∷ q 2 2 ∷ q 4 4 ∷ [])
-packs-qqq registers l =
-    subst (λ (t : List ℕ). padded (packedFrom (q 0 0 ∷ q 2 2 ∷ q 4 4 ∷ []) t) ≡ front (bytesIn (q 0 0 ∷ q 2 2 ∷ q 4 4 ∷ [])) t) (elements-of 16 registers l) refl
-
-packs-info1 : Packs (y 0 0 ∷ q 1 1 ∷ q 3 3 ∷ [])
-packs-info1 registers l =
-    subst (λ (t : List ℕ). padded (packedFrom (y 0 0 ∷ q 1 1 ∷ q 3 3 ∷ []) t) ≡ front (bytesIn (y 0 0 ∷ q 1 1 ∷ q 3 3 ∷ [])) t) (elements-of 16 registers l) refl
-
 pub not-info : (code version : ℕ) → (eqb code 2 && eqb version 2) ≡ false → code ≡ 2 → version ≡ 2 → ⊥
 not-info code version e c v = false≢true (sym e ∙ rw (eq-eqb code 2 c, eq-eqb version 2 v))
 
@@ -160,14 +133,20 @@ not-info code version e c v = false≢true (sym e ∙ rw (eq-eqb code 2 c, eq-eq
 pub packed-as : (code version : ℕ) → (code ≡ 2 → version ≡ 2 → ⊥) → (registers : List ℕ) → length registers ≡ 16
     → padded (valuesOf (rowOf code version) registers) ≡ front (told (rowOf code version)) registers
 unfolding table
-packed-as =
-    each-row
-    (λ (code : ℕ) (version : ℕ) (o : Option Row). (code ≡ 2 → version ≡ 2 → ⊥) → (registers : List ℕ) → length registers ≡ 16
-    → padded (valuesOf o registers) ≡ front (told o) registers)
-    ((λ _. packs-n) & (λ _. packs-n) & (λ _. packs-n) & (λ _. packs-n) & (λ _. packs-info1) & (λ n. absurd (n refl refl)) & (λ _. packs-uu)
-    & (λ _. packs-qq) & (λ _. packs-q) & (λ _. packs-qqq) & (λ _. packs-n) & (λ _. packs-n) & (λ _. packs-q) & (λ _. packs-qqq) & (λ _. packs-n)
-    & (λ _. packs-n) & (λ _. packs-n) & (λ _. packs-n) & (λ _. packs-n) & (λ _. packs-n) & (λ _. packs-n) & (λ _. packs-n) & tt)
-    (λ _ _ _ registers l. refl)
+packed-as code version n registers l =
+    subst (λ (t : List ℕ). padded (valuesOf (rowOf code version) t) ≡ front (told (rowOf code version)) t) (elements-of 16 registers l)
+    (written code version n)
+  where
+    written : (code version : ℕ) → (code ≡ 2 → version ≡ 2 → ⊥)
+        → padded (valuesOf (rowOf code version) (elements 16 0 registers)) ≡ front (told (rowOf code version)) (elements 16 0 registers)
+    written =
+        each-row
+        (λ (code : ℕ) (version : ℕ) (o : Option Row). (code ≡ 2 → version ≡ 2 → ⊥)
+        → padded (valuesOf o (elements 16 0 registers)) ≡ front (told o) (elements 16 0 registers))
+        ((λ _. refl) & (λ _. refl) & (λ _. refl) & (λ _. refl) & (λ _. refl) & (λ n. absurd (n refl refl)) & (λ _. refl) & (λ _. refl) & (λ _. refl)
+        & (λ _. refl) & (λ _. refl) & (λ _. refl) & (λ _. refl) & (λ _. refl) & (λ _. refl) & (λ _. refl) & (λ _. refl) & (λ _. refl) & (λ _. refl)
+        & (λ _. refl) & (λ _. refl) & (λ _. refl) & tt)
+        (λ _ _ _. refl)
 
 -- and GET_INFO's are those of 000: M 0, 5, 6 and 7
 pub info-packed : (registers : List ℕ) → length registers ≡ 16
@@ -181,37 +160,15 @@ info-packed registers l =
     (elements-of 16 registers l) refl
 
 -- each has as many bytes as its parameters
-abbrev Measures : List Parameter → Type 0
-Measures ps = (registers : List ℕ) → length registers ≡ 16 → length (packedFrom ps registers) ≡ bytesIn ps
-
-measures-n : Measures []
-measures-n registers l = subst (λ (t : List ℕ). length (packedFrom [] t) ≡ bytesIn []) (elements-of 16 registers l) refl
-
-measures-q : Measures (q 0 0 ∷ [])
-measures-q registers l = subst (λ (t : List ℕ). length (packedFrom (q 0 0 ∷ []) t) ≡ bytesIn (q 0 0 ∷ [])) (elements-of 16 registers l) refl
-
-measures-qq : Measures (q 0 0 ∷ q 2 2 ∷ [])
-measures-qq registers l = subst (λ (t : List ℕ). length (packedFrom (q 0 0 ∷ q 2 2 ∷ []) t) ≡ bytesIn (q 0 0 ∷ q 2 2 ∷ [])) (elements-of 16 registers l) refl
-
-measures-uu : Measures (u 0 0 ∷ u 4 4 ∷ [])
-measures-uu registers l = subst (λ (t : List ℕ). length (packedFrom (u 0 0 ∷ u 4 4 ∷ []) t) ≡ bytesIn (u 0 0 ∷ u 4 4 ∷ [])) (elements-of 16 registers l) refl
-
-measures-qqq : Measures (q 0 0 ∷ q 2 2 ∷ q 4 4 ∷ [])
-measures-qqq registers l = subst (λ (t : List ℕ). length (packedFrom (q 0 0 ∷ q 2 2 ∷ q 4 4 ∷ []) t) ≡ bytesIn (q 0 0 ∷ q 2 2 ∷ q 4 4 ∷ [])) (elements-of 16 registers l) refl
-
-measures-info1 : Measures (y 0 0 ∷ q 1 1 ∷ q 3 3 ∷ [])
-measures-info1 registers l = subst (λ (t : List ℕ). length (packedFrom (y 0 0 ∷ q 1 1 ∷ q 3 3 ∷ []) t) ≡ bytesIn (y 0 0 ∷ q 1 1 ∷ q 3 3 ∷ [])) (elements-of 16 registers l) refl
-
-measures-info2 : Measures (y 0 0 ∷ y 5 1 ∷ q 6 2 ∷ [])
-measures-info2 registers l = subst (λ (t : List ℕ). length (packedFrom (y 0 0 ∷ y 5 1 ∷ q 6 2 ∷ []) t) ≡ bytesIn (y 0 0 ∷ y 5 1 ∷ q 6 2 ∷ [])) (elements-of 16 registers l) refl
-
 pub packed-long : (code version : ℕ) (registers : List ℕ) → length registers ≡ 16
     → length (valuesOf (rowOf code version) registers) ≡ told (rowOf code version)
 unfolding table
-packed-long =
-    each-row
-    (λ (code : ℕ) (version : ℕ) (o : Option Row). (registers : List ℕ) → length registers ≡ 16 → length (valuesOf o registers) ≡ told o)
-    (measures-n & measures-n & measures-n & measures-n & measures-info1 & measures-info2 & measures-uu & measures-qq & measures-q & measures-qqq
-    & measures-n & measures-n & measures-q & measures-qqq & measures-n & measures-n & measures-n & measures-n & measures-n & measures-n & measures-n
-    & measures-n & tt)
-    (λ _ _ registers l. refl)
+packed-long code version registers l =
+    subst (λ (t : List ℕ). length (valuesOf (rowOf code version) t) ≡ told (rowOf code version)) (elements-of 16 registers l) (written code version)
+  where
+    written : (code version : ℕ) → length (valuesOf (rowOf code version) (elements 16 0 registers)) ≡ told (rowOf code version)
+    written =
+        each-row (λ (code : ℕ) (version : ℕ) (o : Option Row). length (valuesOf o (elements 16 0 registers)) ≡ told o)
+        (refl & refl & refl & refl & refl & refl & refl & refl & refl & refl & refl & refl & refl & refl & refl & refl & refl & refl & refl & refl
+        & refl & refl & tt)
+        (λ _ _. refl)

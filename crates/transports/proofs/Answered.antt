@@ -8,7 +8,7 @@ use Prim.Native.Nat.{ℕ, zero, suc, _+_, _-_, _/_, _≤_, _<_}
 use native.Mathlib.Omega.{arith}
 use lib.Dec.{eqb, leb}
 use lib.ListN.{length, getD, drop, length-drop}
-use borrow.Author.Tests.{lt-ltb, le-ltb, eq-eqb, ne-eqb, eqb-true, leb-true, le-leb, lt-leb}
+use borrow.Author.Tests.{lt-ltb, le-ltb, eq-eqb, ne-eqb, eqb-true, le-leb, lt-leb}
 use Rattle.units.proofs.Cases.{below-or, chosen, both}
 use Rattle.session.specs.Machine.{Setup, Machine}
 use Rattle.registers.specs.Registers.{commandOf, sequenceOf}
@@ -24,7 +24,7 @@ use Rattle.ipmi.specs.Served.{Served, untouched, mediated}
 use Rattle.ipmi.proofs.Serving.{served-as}
 use Rattle.ipmi.proofs.Told.{mediate-answers, answers-long}
 use Rattle.transports.specs.Answered.{parameterBytes, said, knownAt, Own, Heads, Refused, asMailbox, Mediated, AnsweredAsSaid}
-use Rattle.transports.proofs.Known.{known-as-said}
+use Rattle.transports.proofs.Known.{by-code, none-of-them, known-as-said}
 use Rattle.transports.proofs.Statuses.{response-few}
 
 -- ---- the head of a response: what is said of byte 0 is arithmetic
@@ -60,23 +60,14 @@ past-table registers code past = (
 )
   where
     off : (k : ℕ) → leb k 10 ≡ true → eqb code k ≡ false
-    off k h = let small = leb-true k 10 h in ne-eqb code k (λ e. omega arith)
+    off = none-of-them code past
 
 each-code : (registers : List ℕ) (code : ℕ) → Tells (elements 16 0 registers) code
 unfolding rowOf table
-each-code registers zero = (refl, refl, refl)
-each-code registers (suc zero) = (refl, refl, refl)
-each-code registers (suc (suc zero)) = (refl, refl, refl)
-each-code registers (suc (suc (suc zero))) = (refl, refl, refl)
-each-code registers (suc (suc (suc (suc zero)))) = (refl, refl, refl)
-each-code registers (suc (suc (suc (suc (suc zero))))) = (refl, refl, refl)
-each-code registers (suc (suc (suc (suc (suc (suc zero)))))) = (refl, refl, refl)
-each-code registers (suc (suc (suc (suc (suc (suc (suc zero))))))) = (refl, refl, refl)
-each-code registers (suc (suc (suc (suc (suc (suc (suc (suc zero)))))))) = (refl, refl, refl)
-each-code registers (suc (suc (suc (suc (suc (suc (suc (suc (suc zero))))))))) = (refl, refl, refl)
-each-code registers (suc (suc (suc (suc (suc (suc (suc (suc (suc (suc zero)))))))))) = (refl, refl, refl)
-each-code registers (suc (suc (suc (suc (suc (suc (suc (suc (suc (suc (suc n))))))))))) =
-    past-table (elements 16 0 registers) (suc (suc (suc (suc (suc (suc (suc (suc (suc (suc (suc n))))))))))) (omega arith)
+each-code registers =
+    by-code (Tells (elements 16 0 registers)) (refl, refl, refl) (refl, refl, refl) (refl, refl, refl) (refl, refl, refl) (refl, refl, refl)
+    (refl, refl, refl) (refl, refl, refl) (refl, refl, refl) (refl, refl, refl) (refl, refl, refl) (refl, refl, refl)
+    (past-table (elements 16 0 registers))
 
 -- a version above 2 has none
 from-three : (registers : List ℕ) (code version : ℕ) → 3 ≤ version → valuesOf (rowOf code version) registers ≡ said version code registers

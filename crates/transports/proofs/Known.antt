@@ -17,7 +17,26 @@ use Rattle.transports.specs.Known.{IsLaidOut, KnownAsSaid, RowsAreLaidOu
 abbrev AsSaid : ℕ → Type 0
 AsSaid code = (isKnown code 0 ≡ knows 0 code) × (isKnown code 1 ≡ knows 1 code) × (isKnown code 2 ≡ knows 2 code)
 
--- a code past the table
+-- a case distinction over the codes of the table
+pub by-code : (P : ℕ → Type 0) → P 0 → P 1 → P 2 → P 3 → P 4 → P 5 → P 6 → P 7 → P 8 → P 9 → P 10 → ((n : ℕ) → 11 ≤ n → P n) → (code : ℕ) → P code
+by-code P a b c d e f g h i j k past zero = a
+by-code P a b c d e f g h i j k past (suc zero) = b
+by-code P a b c d e f g h i j k past (suc (suc zero)) = c
+by-code P a b c d e f g h i j k past (suc (suc (suc zero))) = d
+by-code P a b c d e f g h i j k past (suc (suc (suc (suc zero)))) = e
+by-code P a b c d e f g h i j k past (suc (suc (suc (suc (suc zero))))) = f
+by-code P a b c d e f g h i j k past (suc (suc (suc (suc (suc (suc zero)))))) = g
+by-code P a b c d e f g h i j k past (suc (suc (suc (suc (suc (suc (suc zero))))))) = h
+by-code P a b c d e f g h i j k past (suc (suc (suc (suc (suc (suc (suc (suc zero)))))))) = i
+by-code P a b c d e f g h i j k past (suc (suc (suc (suc (suc (suc (suc (suc (suc zero))))))))) = j
+by-code P a b c d e f g h i j k past (suc (suc (suc (suc (suc (suc (suc (suc (suc (suc zero)))))))))) = k
+by-code P a b c d e f g h i j k past (suc (suc (suc (suc (suc (suc (suc (suc (suc (suc (suc n))))))))))) =
+    past (suc (suc (suc (suc (suc (suc (suc (suc (suc (suc (suc n))))))))))) (omega arith)
+
+-- a code past the table is none of its codes
+pub none-of-them : (code : ℕ) → 11 ≤ code → (k : ℕ) → leb k 10 ≡ true → eqb code k ≡ false
+none-of-them code past k h = let small = leb-true k 10 h in ne-eqb code k (λ e. omega arith)
+
 past-table : (code : ℕ) → 11 ≤ code → AsSaid code
 unfolding rowOf table
 past-table code past = (
@@ -33,23 +52,13 @@ past-table code past = (
     above k h = let small = leb-true k 10 h in lt-leb code k (omega arith)
 
     off : (k : ℕ) → leb k 10 ≡ true → eqb code k ≡ false
-    off k h = let small = leb-true k 10 h in ne-eqb code k (λ e. omega arith)
+    off = none-of-them code past
 
 each-code : (code : ℕ) → AsSaid code
 unfolding rowOf table
-each-code zero = (refl, refl, refl)
-each-code (suc zero) = (refl, refl, refl)
-each-code (suc (suc zero)) = (refl, refl, refl)
-each-code (suc (suc (suc zero))) = (refl, refl, refl)
-each-code (suc (suc (suc (suc zero)))) = (refl, refl, refl)
-each-code (suc (suc (suc (suc (suc zero))))) = (refl, refl, refl)
-each-code (suc (suc (suc (suc (suc (suc zero)))))) = (refl, refl, refl)
-each-code (suc (suc (suc (suc (suc (suc (suc zero))))))) = (refl, refl, refl)
-each-code (suc (suc (suc (suc (suc (suc (suc (suc zero)))))))) = (refl, refl, refl)
-each-code (suc (suc (suc (suc (suc (suc (suc (suc (suc zero))))))))) = (refl, refl, refl)
-each-code (suc (suc (suc (suc (suc (suc (suc (suc (suc (suc zero)))))))))) = (refl, refl, refl)
-each-code (suc (suc (suc (suc (suc (suc (suc (suc (suc (suc (suc n))))))))))) =
-    past-table (suc (suc (suc (suc (suc (suc (suc (suc (suc (suc (suc n))))))))))) (omega arith)
+each-code =
+    by-code AsSaid (refl, refl, refl) (refl, refl, refl) (refl, refl, refl) (refl, refl, refl) (refl, refl, refl) (refl, refl, refl) (refl, refl, refl)
+    (refl, refl, refl) (refl, refl, refl) (refl, refl, refl) (refl, refl, refl) past-table
 
 to-two : (code version : ℕ) → version ≤ 2 → isKnown code version ≡ knows version code
 to-two code zero h = each-code code .0

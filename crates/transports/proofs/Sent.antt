@@ -1,21 +1,21 @@
 -- The message made of a mailbox command is taken, and the mediator leaves of its registers what it leaves of the command's.
 use mathlib.Core.Path.{_≡_, refl, sym, subst, _∙_}
-use mathlib.Core.Bool.{Bool, true, false, not, _&&_, _||_, false≢true}
+use mathlib.Core.Bool.{Bool, true, false, _&&_, _||_, false≢true}
 use mathlib.Core.List.{List, [], _∷_, _++_}
 use mathlib.Core.Option.{Option}
 use Prim.Native.Nat.{ℕ, suc, _+_, _-_, _*_, _/_, _<_}
 use native.Mathlib.Omega.{arith}
-use lib.Dec.{eqb, ltb}
+use lib.Dec.{ltb}
 use lib.ListN.{length}
 use borrow.Author.Tests.{eq-eqb, le-ltb}
 use Rattle.session.specs.Machine.{Setup, Machine}
 use Rattle.registers.specs.Registers.{commandOf, sequenceOf}
-use Rattle.registers.proofs.Fields.{elements-of}
+use Rattle.registers.proofs.Fields.{elements, elements-of}
 use Rattle.messages.specs.declared.Pair.{Pair}
 use Rattle.messages.specs.declared.Taken.{Taken}
 use Rattle.messages.specs.declared.Taken.the-variants.{Command}
-use Rattle.messages.specs.Parameters.{Parameter, y, q, u, Row, table, rowOf, bytesIn}
-use Rattle.messages.specs.Messages.{isOwn, wrongLength, takenAs, packedFrom, argumentsOf, registersOf}
+use Rattle.messages.specs.Parameters.{Row, table, rowOf}
+use Rattle.messages.specs.Messages.{isOwn, wrongLength, takenAs, argumentsOf, registersOf}
 use Rattle.messages.proofs.Passing.{each-taken}
 use Rattle.messages.proofs.Rows.{_&_, each-row}
 use Rattle.mailbox.specs.Mediator.{mediate}
@@ -23,33 +23,19 @@ use Rattle.transports.specs.Same.{givenBy, messageOf}
 use Rattle.transports.proofs.Looking.{seen, each-alike}
 
 -- ---- it has as many bytes as the row asks for
-abbrev Right : List Parameter → Type 0
-Right ps = (registers : List ℕ) → length registers ≡ 16 → not (eqb (length (packedFrom ps registers)) (bytesIn ps)) ≡ false
-
-right-n : Right []
-right-n registers l = subst (λ (t : List ℕ). not (eqb (length (packedFrom [] t)) 0) ≡ false) (elements-of 16 registers l) refl
-
-right-y : Right (y 0 0 ∷ [])
-right-y registers l = subst (λ (t : List ℕ). not (eqb (length (packedFrom (y 0 0 ∷ []) t)) 1) ≡ false) (elements-of 16 registers l) refl
-
-right-q : Right (q 0 0 ∷ [])
-right-q registers l = subst (λ (t : List ℕ). not (eqb (length (packedFrom (q 0 0 ∷ []) t)) 2) ≡ false) (elements-of 16 registers l) refl
-
-right-qq : Right (q 0 0 ∷ q 2 2 ∷ [])
-right-qq registers l = subst (λ (t : List ℕ). not (eqb (length (packedFrom (q 0 0 ∷ q 2 2 ∷ []) t)) 4) ≡ false) (elements-of 16 registers l) refl
-
-right-qu : Right (q 0 0 ∷ u 2 2 ∷ [])
-right-qu registers l = subst (λ (t : List ℕ). not (eqb (length (packedFrom (q 0 0 ∷ u 2 2 ∷ []) t)) 6) ≡ false) (elements-of 16 registers l) refl
-
 right-length : (command version : ℕ) (registers : List ℕ) → length registers ≡ 16
     → wrongLength (rowOf command version) (length (givenBy (rowOf command version) registers)) ≡ false
 unfolding table
-right-length =
-    each-row
-    (λ (command : ℕ) (version : ℕ) (o : Option Row). (registers : List ℕ) → length registers ≡ 16 → wrongLength o (length (givenBy o registers)) ≡ false)
-    (right-n & right-n & right-n & right-y & right-y & right-y & right-n & right-n & right-q & right-qq & right-n & right-y & right-q & right-qq
-    & right-qu & right-qq & right-qu & right-n & right-y & right-y & right-y & right-qq & tt)
-    (λ _ _ registers l. refl)
+right-length command version registers l =
+    subst (λ (t : List ℕ). wrongLength (rowOf command version) (length (givenBy (rowOf command version) t)) ≡ false) (elements-of 16 registers l)
+    (written command version)
+  where
+    written : (command version : ℕ) → wrongLength (rowOf command version) (length (givenBy (rowOf command version) (elements 16 0 registers))) ≡ false
+    written =
+        each-row (λ (command : ℕ) (version : ℕ) (o : Option Row). wrongLength o (length (givenBy o (elements 16 0 registers))) ≡ false)
+        (refl & refl & refl & refl & refl & refl & refl & refl & refl & refl & refl & refl & refl & refl & refl & refl & refl & refl & refl & refl
+        & refl & refl & tt)
+        (λ _ _. refl)
 
 -- ---- it is for the board's pair, with any LUN
 function-of : (netfn lun : ℕ) → lun < 4 → (netfn * 4 + lun) / 4 ≡ netfn
