@@ -10,6 +10,13 @@ pub mod twin;
 pub use second::messages::Pair as BoardPair;
 use second::{Kind, Session};
 
+/// Which of the two answers.
+#[derive(Clone, Copy)]
+pub enum Side {
+    Ours,
+    Second,
+}
+
 /// C's record. Yes and no are numbers here, so that a byte that is neither 0 nor 1 has a meaning.
 #[repr(C)]
 #[derive(Clone, Copy, Debug, PartialEq)]

@@ -3,19 +3,12 @@
 //! cases ours|second SECTION: the proved library or the second implementation. tests/cases.sh compares what both print with the stored
 //! tests/cases/SECTION.txt.
 
-use compare::{record_of, session_of};
+use compare::{record_of, session_of, Side};
 use second::{Kind, Session};
 
 const BLOCK: usize = 4096;
 const LPC: u16 = 16;
 const TIMEOUT: u16 = 8;
-
-/// Which of the two answers.
-#[derive(Clone, Copy)]
-enum Side {
-    Ours,
-    Second,
-}
 
 /// A session with its buffers.
 #[derive(Clone)]

@@ -4,20 +4,13 @@
 //! tests/cases/messages.txt.
 
 use compare::messages::{asked, message};
-use compare::{twin, BoardPair, Record};
+use compare::{twin, BoardPair, Record, Side};
 
 const BLOCK: usize = 4096;
 const BOARD: BoardPair = BoardPair { network_function: 0x3a, command: 0x5c };
 /// Numbers whose two bytes differ.
 const LPC: u16 = 0x0310;
 const TIMEOUT: u16 = 0x0408;
-
-/// Which of the two answers.
-#[derive(Clone, Copy)]
-enum Side {
-    Ours,
-    Second,
-}
 
 /// A board with its record and buffers.
 #[derive(Clone)]
