@@ -1,2 +1,3 @@
 pub mod Each
 pub mod Replace
+pub mod Stores

@@ -2,3 +2,4 @@ pub mod Actions
 pub mod Cut
 pub mod Locate
 pub mod Window
+pub mod Worn

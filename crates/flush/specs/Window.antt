@@ -1,6 +1,6 @@
--- The flush of a session's window: document 01, "Chip actions".
+-- The flush of a session's window: document 01, "Chip actions", and 02, Ticket 8.
 use Prim.Native.Nat.{ℕ, _+_}
-use mathlib.Core.Bool.{Bool, true, false, cond}
+use mathlib.Core.Bool.{Bool, true, false, cond, not, _&&_}
 use mathlib.Core.List.{List}
 use lib.Dec.{ltb}
 use lib.ListN.{length, take, drop}
@@ -8,10 +8,13 @@ use Rattle.buffers.specs.Ranges.{range, replace}
 use Rattle.units.specs.Units.{toBytes}
 use Rattle.session.specs.declared.Session.{Session}
 use Rattle.session.specs.Machine.{Machine}
+use Rattle.session.specs.Record.{clean}
 use Rattle.soundness.specs.Soundness.{sound}
 use Rattle.flush.specs.declared.window.Step.{Step}
-use Rattle.flush.specs.declared.window.Step.the-variants.{Unsound, Suspended, Acted, Finished}
+use Rattle.flush.specs.declared.window.Step.the-variants.{Unsound, Suspended, Acted, Finished, Failed}
+use Rattle.flush.specs.declared.window.Flush.{Flush}
 use Rattle.flush.specs.Actions.{Action, flushActions, performAll}
+use Rattle.flush.specs.Worn.{untilFailure, someFail, marksKept}
 
 -- the actions of the session's window; without a write window a sound session has no marks
 abbrev pub windowActions : Session → List Action
@@ -28,26 +31,39 @@ partEnd s = toBytes (s .first) + toBytes (s .size)
 unfoldable pub performIn : Session → List ℕ → List Action → List ℕ → List ℕ
 performIn s memory actions flash = replace (toBytes (s .first)) (performAll memory actions (windowPart s flash)) flash
 
--- there is an action after the first so many, and the flash after that action; past the end "nothing changes"
-abbrev pub hasNext : Session → ℕ → Bool
-hasNext s done = ltb done (length (windowActions s))
+-- the window's part of the map of worn blocks
+abbrev pub windowWorn : Session → List ℕ → List ℕ
+windowWorn s worn = range (s .first) (s .size) worn
+
+-- "A flush stops at the first failure" (02, Ticket 8): the actions that are done, and whether one fails
+abbrev pub doneActions : Machine → List Action
+doneActions m = untilFailure (windowWorn (m .session) (m .worn)) (windowActions (m .session))
+
+abbrev pub flushFails : Machine → Bool
+flushFails m = someFail (windowWorn (m .session) (m .worn)) (windowActions (m .session))
+
+-- of these there is one after the first so many, and the flash after it; past the end, and from the failed erase on, "nothing changes"
+abbrev pub hasNext : Machine → ℕ → Bool
+hasNext m done = ltb done (length (doneActions m))
 
 abbrev pub performNext : Machine → ℕ → List ℕ
-performNext m done = performIn (m .session) (m .memory) (take 1 (drop done (windowActions (m .session)))) (m .flash)
+performNext m done = performIn (m .session) (m .memory) (take 1 (drop done (doneActions m))) (m .flash)
 
--- "It answers 4 .., then 6 when suspended, and changes nothing; otherwise 1": the number of each answer
+-- "It answers 4 .., then 6 when suspended, and changes nothing; otherwise 1", and "3 from that erase on" (02, Ticket 8): the number of each answer
 abbrev pub stepCode : Step → ℕ
 stepCode Unsound = 4
 stepCode Suspended = 6
 stepCode Acted = 1
 stepCode Finished = 1
+stepCode Failed = 3
 
--- "with yes if it did an action and no past the end"; a step that is refused did none
+-- "with yes if it did an action and no past the end"; a step that is refused, or whose erase fails, did none
 abbrev pub stepYes : Step → Bool
 stepYes Unsound = false
 stepYes Suspended = false
 stepYes Acted = true
 stepYes Finished = false
+stepYes Failed = false
 
 -- the code of a step, its yes or no, and the flash after it
 pub record Advanced : Type 0 where
@@ -59,27 +75,36 @@ pub record Advanced : Type 0 where
 abbrev pub stepped : Step → List ℕ → Advanced
 stepped step flash = record { code = stepCode step; yes = stepYes step; flash = flash }
 
--- the flush advanced by one action, "from the session, both buffers and the number of actions already done": B is not among these, so of "what
--- the table calls SYSTEM_ERROR" the sizes and the session are looked at
+-- the flush advanced by one action, "from the session, both buffers and the number of actions already done", and the map: B is not among these, so
+-- of "what the table calls SYSTEM_ERROR" the sizes and the session are looked at
 unfoldable pub advanced : Machine → ℕ → Advanced
 advanced m done =
-    cond (sound (length (m .flash)) (length (m .memory)) (m .session))
+    cond (sound (length (m .flash)) (length (m .worn)) (length (m .memory)) (m .session))
     (cond (m .session .suspended)
     (record { code = 6; yes = false; flash = m .flash })
-    (record { code = 1; yes = hasNext (m .session) done; flash = performNext m done }))
+    (record { code = cond (not (hasNext m done) && flushFails m) 3 1; yes = hasNext m done; flash = performNext m done }))
     (record { code = 4; yes = false; flash = m .flash })
 
--- the number of actions, and the flash after them
+-- the number of actions, whether an erase failed, the marks that are left, and the flash after the actions
 pub record Flushed : Type 0 where
   pub actions : ℕ
+  pub failed : Bool
+  pub marks : List ℕ
   pub flash : List ℕ
 
--- all actions of a sound session's window, suspended or not; of any other none (house: a command that flushes has passed the table)
+-- as the code has them
+abbrev pub flushLeft : Flush → List ℕ → Flushed
+flushLeft f flash = record { actions = f .actions; failed = f .failed; marks = f .marks; flash = flash }
+
+-- all actions of a sound session's window, suspended or not, up to the first that fails: "The action count leaves out the failed erase" (02, Ticket
+-- 8). Where none fails no mark is left. Of any other session nothing is done (house: a command that flushes has passed the table)
 unfoldable pub flushWhole : Machine → Flushed
 flushWhole m =
-    cond (sound (length (m .flash)) (length (m .memory)) (m .session))
+    cond (sound (length (m .flash)) (length (m .worn)) (length (m .memory)) (m .session))
     (record {
-      actions = length (windowActions (m .session));
-      flash = performIn (m .session) (m .memory) (windowActions (m .session)) (m .flash);
+      actions = length (doneActions m);
+      failed = flushFails m;
+      marks = cond (flushFails m) (marksKept (windowWorn (m .session) (m .worn)) (m .session .marks)) clean;
+      flash = performIn (m .session) (m .memory) (doneActions m) (m .flash);
     })
-    (record { actions = 0; flash = m .flash })
+    (record { actions = 0; failed = false; marks = clean; flash = m .flash })

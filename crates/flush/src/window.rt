@@ -1,15 +1,21 @@
-// The flush of a session's window over the whole flash: only the window's own part is lent on.
+// The flush of a session's window over the whole flash: only the window's own part is lent on, of the flash and of the map.
 use crate::marked::flush_marked;
 use crate::marked::step_marked;
+use crate::worn::finished_blocks;
+use crate::worn::first_marks;
+use crate::worn::last_marks;
 use session::Session;
 use session::none_marked;
 use soundness::is_sound;
 use units::Blocks;
 ghost use mathlib.Core.Path.{_≡_};
-ghost use Prim.Native.Nat.{_≤_};
-ghost use lib.ListN.{length};
+ghost use Prim.Native.Nat.{_+_, _≤_};
+ghost use lib.Dec.{ltb};
+ghost use lib.ListN.{length, take, drop};
 ghost use Rattle.session.specs.Machine.{lent};
-ghost use Rattle.flush.specs.Window.{windowActions, partEnd, performIn, hasNext, performNext, stepped, advanced, flushWhole};
+ghost use Rattle.flush.specs.Actions.{flushActions};
+ghost use Rattle.flush.specs.Worn.{someFail, finishedBlocks};
+ghost use Rattle.flush.specs.Window.{windowActions, partEnd, windowWorn, performIn, stepped, advanced, flushLeft, flushWhole};
 
 // What advancing a flush by one action came to.
 pub enum Step {
@@ -21,60 +27,107 @@ pub enum Step {
     Acted,
     // All actions were done before.
     Finished,
+    // All actions before the erase of a worn block were done before.
+    Failed,
+}
+
+// What a whole flush came to: the number of its actions, whether an erase failed, and the marks that are left.
+pub struct Flush {
+    pub actions: u32,
+    pub failed: bool,
+    pub marks: [u8; 64],
 }
 
 // Advances the flush by one action, from the number of actions already done. Only the flash changes.
-pub fn advance(session: Session, flash: &mut [u8], memory: &[u8], done: u64) -> Step
-    ensures { λ r. ⌜ stepped r (now (flash .exit)) ≡ advanced (lent session (now (flash .entry)) (now (memory .entry))) done ⌝ }
+pub fn advance(session: Session, flash: &mut [u8], worn: &[u8], memory: &[u8], done: u64) -> Step
+    ensures { λ r. ⌜ stepped r (now (flash .exit)) ≡ advanced (lent session (now (flash .entry)) (now (worn .entry)) (now (memory .entry))) done ⌝ }
 {
-    if !is_sound(session, flash.len(), memory.len()) {
+    if !is_sound(session, flash.len(), worn.len(), memory.len()) {
         return Step::Unsound;
     }
     if session.suspended {
         return Step::Suspended;
     }
-    if step_part(session, flash, memory, done) {
-        Step::Acted
+    let finished = finished_in(session, worn);
+    let marks = session.marks;
+    if step_part(session, first_marks(marks, finished), flash, memory, done) {
+        return Step::Acted;
+    }
+    if finished < 64 {
+        Step::Failed
     } else {
         Step::Finished
     }
 }
 
-// Does all actions of a sound session's window, suspended or not, and answers their number.
-pub fn flush_window(session: Session, flash: &mut [u8], memory: &[u8]) -> u32
-    ensures { λ r. ⌜ record { actions = r; flash = now (flash .exit) } ≡ flushWhole (lent session (now (flash .entry)) (now (memory .entry))) ⌝ }
+// Does the actions of a sound session's window, suspended or not, up to the first that fails.
+pub fn flush_window(session: Session, flash: &mut [u8], worn: &[u8], memory: &[u8]) -> Flush
+    ensures { λ r. ⌜ flushLeft r (now (flash .exit)) ≡ flushWhole (lent session (now (flash .entry)) (now (worn .entry)) (now (memory .entry))) ⌝ }
 {
-    if !is_sound(session, flash.len(), memory.len()) {
-        return 0;
+    if !is_sound(session, flash.len(), worn.len(), memory.len()) {
+        return Flush {
+            actions: 0,
+            failed: false,
+            marks: [0; 64],
+        };
     }
     // two numbers instead of 64 turns, where nothing is marked: half a microsecond of a create
     let counts = session.counts;
     if none_marked(counts) {
-        return 0;
+        return Flush {
+            actions: 0,
+            failed: false,
+            marks: [0; 64],
+        };
     }
-    flush_part(session, flash, memory)
+    let finished = finished_in(session, worn);
+    let marks = session.marks;
+    let actions = flush_part(session, first_marks(marks, finished), flash, memory);
+    if finished < 64 {
+        Flush {
+            actions,
+            failed: true,
+            marks: last_marks(marks, finished),
+        }
+    } else {
+        Flush {
+            actions,
+            failed: false,
+            marks: [0; 64],
+        }
+    }
 }
 
-// All actions of a window that lies in the flash.
-fn flush_part(session: Session, flash: &mut [u8], memory: &[u8]) -> u32
+// How many blocks of a window that lies in the map come before the first whose erase fails.
+fn finished_in(session: Session, worn: &[u8]) -> u32
+    requires { ⌜ session .first + session .size ≤ length (now worn) ⌝ }
+    ensures { λ r. ⌜ (r ≡ finishedBlocks (windowWorn session (now (worn .entry))) (session .marks)) × (r ≤ 64)
+        × (someFail (windowWorn session (now (worn .entry))) (windowActions session) ≡ ltb r 64) ⌝ }
+{
+    let start = session.first as usize;
+    let end = start + session.size as usize;
+    let marks = session.marks;
+    finished_blocks(&worn[start..end], marks)
+}
+
+// All actions of these marks in a window that lies in the flash.
+fn flush_part(session: Session, marks: [u8; 64], flash: &mut [u8], memory: &[u8]) -> u32
     requires { ⌜ partEnd session ≤ length (now flash) ⌝ }
-    ensures { λ r. ⌜ (r ≡ length (windowActions session))
-        × (now (flash .exit) ≡ performIn session (now (memory .entry)) (windowActions session) (now (flash .entry))) ⌝ }
+    ensures { λ r. ⌜ (r ≡ length (flushActions marks))
+        × (now (flash .exit) ≡ performIn session (now (memory .entry)) (flushActions marks) (now (flash .entry))) ⌝ }
 {
     let start = Blocks(session.first as u32).bytes().0 as usize;
     let end = start + Blocks(session.size as u32).bytes().0 as usize;
-    let marks = session.marks;
     flush_marked(&mut flash[start..end], memory, marks)
 }
 
-// One action of a window that lies in the flash.
-fn step_part(session: Session, flash: &mut [u8], memory: &[u8], done: u64) -> bool
+// One action of these marks in a window that lies in the flash.
+fn step_part(session: Session, marks: [u8; 64], flash: &mut [u8], memory: &[u8], done: u64) -> bool
     requires { ⌜ partEnd session ≤ length (now flash) ⌝ }
-    ensures { λ r. ⌜ (r ≡ hasNext session done)
-        × (now (flash .exit) ≡ performNext (lent session (now (flash .entry)) (now (memory .entry))) done) ⌝ }
+    ensures { λ r. ⌜ (r ≡ ltb done (length (flushActions marks)))
+        × (now (flash .exit) ≡ performIn session (now (memory .entry)) (take 1 (drop done (flushActions marks))) (now (flash .entry))) ⌝ }
 {
     let start = Blocks(session.first as u32).bytes().0 as usize;
     let end = start + Blocks(session.size as u32).bytes().0 as usize;
-    let marks = session.marks;
     step_marked(&mut flash[start..end], memory, marks, done)
 }

@@ -24,7 +24,7 @@ use Rattle.refusals.specs.declared.Needs.the-variants.{Access}
 use Rattle.refusals.specs.Refusals.{reasonFor}
 use Rattle.refusals.proofs.Accepting.{passed}
 use Rattle.registers.specs.Registers.{number, bytesOf, padded}
-use Rattle.mailbox.specs.Commands.{sizeFor, opened}
+use Rattle.mailbox.specs.Commands.{sizeFor, opening}
 
 pub copied-front : (flash memory ys : List ℕ) (a n first size : ℕ) → a ≡ toBytes first → n ≡ toBytes size → a + n ≤ length flash → n ≤ length memory
     → ys ≡ copyEach (midOf 0 (n - 0) memory) (midOf a (a + n - a) flash)
@@ -51,10 +51,10 @@ size-fits S C o n h =
     (decided (eqb n 0))
 
 -- the outcome of a create goes by the window's place and size
-pub opened-as : (window : Window) (setup : Setup) (registers : List ℕ) (m : Machine) {o o′ z z′ : ℕ} → o ≡ o′ → z ≡ z′
-    → opened window o z setup registers m ≡ opened window o′ z′ setup registers m
-opened-as window setup registers m {o} {o′} {z} {z′} p q =
-    ap (λ (k : ℕ). opened window k z setup registers m) p ∙ ap (λ (k : ℕ). opened window o′ k setup registers m) q
+pub opening-as : (window : Window) (setup : Setup) (registers : List ℕ) (m : Machine) {o o′ z z′ : ℕ} → o ≡ o′ → z ≡ z′
+    → opening window o z setup registers m ≡ opening window o′ z′ setup registers m
+opening-as window setup registers m {o} {o′} {z} {z′} p q =
+    ap (λ (k : ℕ). opening window k z setup registers m) p ∙ ap (λ (k : ℕ). opening window o′ k setup registers m) q
 
 -- ---- whether the first block of a new window lies in the flash
 

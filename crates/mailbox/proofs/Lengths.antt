@@ -8,6 +8,7 @@ use lib.Dec.{leb}
 use lib.ListN.{length, drop, length-take}
 use borrow.Author.Tests.{leb-false, not-false}
 use Rattle.units.specs.Units.{toBytes, roundUp}
+use Rattle.units.proofs.Cases.{chosen}
 use Rattle.buffers.specs.Ranges.{range}
 use Rattle.buffers.proofs.Replace.{replace-length}
 use Rattle.chip.proofs.Laws.{erased-length}
@@ -23,8 +24,8 @@ use Rattle.refusals.specs.declared.Needs.the-variants.{Access, WriteWindow}
 use Rattle.refusals.specs.Refusals.{blocksNamed}
 use Rattle.refusals.proofs.Accepting.{passed, named-within}
 use Rattle.registers.specs.Registers.{commandOf, number}
-use Rattle.mailbox.specs.Commands.{Outcome, numbered, sizeFor, hint}
-use Rattle.mailbox.specs.Table.{Command, create, erase, createReadWindow, createWriteWindow, from}
+use Rattle.mailbox.specs.Commands.{Outcome, numbered, sizeFor, hint, closing, opened, stopped, flushing, flushedThrough}
+use Rattle.mailbox.specs.Table.{Command, create, createReadWindow, closeWindow, createWriteWindow, flush, erase, from}
 use Rattle.mailbox.specs.Mediator.{commandAt, reasonOf, mediate}
 use Rattle.mailbox.proofs.Front.{size-fits}
 use Rattle.mailbox.proofs.Mediating.{each-command, each-answer}
@@ -33,7 +34,7 @@ use Rattle.mailbox.proofs.Mediating.{each-command, each-answer}
 range-few : (at n : ℕ) (xs : List ℕ) → length (range at n xs) ≤ n
 range-few at n xs = let long = length-take n (drop at xs) in omega arith
 
-module _ (setup : Setup) (s : Session) (registers flash memory : List ℕ) where
+module _ (setup : Setup) (s : Session) (registers flash worn memory : List ℕ) where
   -- what is to be shown of an outcome
   abbrev Long : Outcome → Type 0
   Long o = length (o .machine .memory) ≡ length memory
@@ -41,43 +42,55 @@ module _ (setup : Setup) (s : Session) (registers flash memory : List ℕ) where
   -- a command that no check refused, by its row
   abbrev Served : Command → Type 0
   Served c =
-      reasonOf c (soundIn setup (lent s flash memory)) registers (lent s flash memory) ≡ Accepted → Long (c .leaves setup registers (lent (numbered s registers) flash memory))
+      reasonOf c (soundIn setup (lent s flash worn memory)) registers (lent s flash worn memory) ≡ Accepted → Long (c .leaves setup registers (lent (numbered s registers) flash worn memory))
 
   -- the blocks of a new window fit
   create-long : (code : ℕ) (w : Window) → Served (create code w)
   create-long code w a =
-      let p = passed (soundIn setup (lent s flash memory)) s registers (from 1 (s .version)) Access (leb (roundUp (length flash)) (number 2 0 registers)) a in
-      let m = measured setup (length flash) (length memory) s (p .sounds) in
+      let p = passed (soundIn setup (lent s flash worn memory)) s registers (from 1 (s .version)) Access (leb (roundUp (length flash)) (number 2 0 registers)) a in
+      let m = measured setup (length flash) (length worn) (length memory) s (p .sounds) in
       let o = number 2 0 registers in
       let z = sizeFor (roundUp (length flash)) (roundUp (length memory)) o (hint s registers) in
       let fits = size-fits (roundUp (length flash)) (roundUp (length memory)) o (hint s registers) (leb-false (roundUp (length flash)) o (p .argued)) in
-      let flushed = flushWhole (lent (numbered s registers) flash memory) .flash in
-      replace-length 0 (range (toBytes o) (toBytes z) flushed) memory
-      (omega (arith, range-few (toBytes o) (toBytes z) flushed, fits .1, m .memory-sized .whole))
+      let next = lent (numbered s registers) flash worn memory in
+      let flushed = flushWhole next .flash in
+      chosen Long (flushWhole next .failed) (closing 3 registers next) (opened w o z setup registers next) (λ _. refl)
+      (λ _. replace-length 0 (range (toBytes o) (toBytes z) flushed) memory (omega (arith, range-few (toBytes o) (toBytes z) flushed, fits .1, m .memory-sized .whole)))
 
   -- and those that an ERASE names
   erase-long : Served erase
   erase-long a =
       let b = blocksNamed s registers in
-      let p = passed (soundIn setup (lent s flash memory)) s registers (from 2 (s .version)) WriteWindow (not (b .inside)) a in
-      let m = measured setup (length flash) (length memory) s (p .sounds) in
+      let p = passed (soundIn setup (lent s flash worn memory)) s registers (from 2 (s .version)) WriteWindow (not (b .inside)) a in
+      let m = measured setup (length flash) (length worn) (length memory) s (p .sounds) in
       erased-length (toBytes (b .start)) (toBytes (b .count)) memory
       (omega (arith, named-within s registers (not-false (b .inside) (p .argued)), m .fits .in-memory, m .memory-sized .whole))
+
+  -- a CLOSE_WINDOW and a FLUSH, whether an erase fails or not
+  close-long : Served closeWindow
+  close-long a =
+      let next = lent (numbered s registers) flash worn memory in
+      chosen Long (flushWhole next .failed) (stopped registers next) (closing 1 registers next) (λ _. refl) (λ _. refl)
+
+  flush-long : Served flush
+  flush-long a =
+      let next = lent (flushing (numbered s registers) registers) flash worn memory in
+      chosen Long (flushWhole next .failed) (stopped registers next) (flushedThrough registers next) (λ _. refl) (λ _. refl)
 
   served-long : (n : ℕ) → Served (commandAt n)
   served-long =
       each-command (λ (_ : ℕ). Served)
-      (λ a. refl) (λ a. refl) (λ a. refl) (create-long (createReadWindow .code) Read) (λ a. refl) (create-long (createWriteWindow .code) Write)
-      (λ a. refl) (λ a. refl) (λ a. refl) erase-long (λ n a. refl)
+      (λ a. refl) (λ a. refl) (λ a. refl) (create-long (createReadWindow .code) Read) close-long (create-long (createWriteWindow .code) Write)
+      (λ a. refl) flush-long (λ a. refl) erase-long (λ n a. refl)
 
   -- a refusal for an argument
-  broken-long : (code n : ℕ) → Long (commandAt n .whenBroken code registers (lent (numbered s registers) flash memory))
+  broken-long : (code n : ℕ) → Long (commandAt n .whenBroken code registers (lent (numbered s registers) flash worn memory))
   broken-long code =
-      each-command (λ (_ : ℕ) (c : Command). Long (c .whenBroken code registers (lent (numbered s registers) flash memory)))
+      each-command (λ (_ : ℕ) (c : Command). Long (c .whenBroken code registers (lent (numbered s registers) flash worn memory)))
       refl refl refl refl refl refl refl refl refl refl (λ _. refl)
 
 pub memory-long : (setup : Setup) (registers : List ℕ) (m : Machine) → length (mediate setup registers m .machine .memory) ≡ length (m .memory)
 memory-long setup registers m =
-    each-answer (Long setup (m .session) registers (m .flash) (m .memory)) setup registers m
-    (served-long setup (m .session) registers (m .flash) (m .memory) (commandOf registers))
-    (λ code. broken-long setup (m .session) registers (m .flash) (m .memory) code (commandOf registers)) (λ code. refl) (λ code. refl)
+    each-answer (Long setup (m .session) registers (m .flash) (m .worn) (m .memory)) setup registers m
+    (served-long setup (m .session) registers (m .flash) (m .worn) (m .memory) (commandOf registers))
+    (λ code. broken-long setup (m .session) registers (m .flash) (m .worn) (m .memory) code (commandOf registers)) (λ code. refl) (λ code. refl)

@@ -124,12 +124,12 @@ pub record Fits (m : Machine) : Type 0 where
 
 pub call-fits : (setup : Setup) (m : Machine) → soundIn setup m ≡ true → Fits m
 call-fits setup m e =
-    let z = measured setup (length (m .flash)) (length (m .memory)) (m .session) e in
-    let p = sizes (length (m .flash)) (length (m .memory)) (m .session) (z .sound) in
+    let z = measured setup (length (m .flash)) (length (m .worn)) (length (m .memory)) (m .session) e in
+    let p = sizes (length (m .flash)) (length (m .worn)) (length (m .memory)) (m .session) (z .sound) in
     record {
       flash-sound = p .0;
       memory-sound = p .1;
       few = le-trans (z .fits .in-memory) (z .memory-sized .few);
-      room = part-within (length (m .flash)) (length (m .memory)) (m .session) (z .sound) .1;
+      room = part-within (length (m .flash)) (length (m .worn)) (length (m .memory)) (m .session) (z .sound) .1;
       counts = z .fits .counts;
     }

@@ -54,11 +54,11 @@ unfolding answerTo
 broken-as r c setup registers m e = sym (ap (λ (q : Reason). answerTo q c setup registers m) e)
 
 -- what a command leaves that is refused after the first check, from what the refusal promises
-pub refused-left : (c : Command) (setup : Setup) (registers : List ℕ) (s : Session) (flash memory : List ℕ) (r : Reason) (a : Answer)
-    → r ≡ reasonOf c true registers (lent s flash memory) → OneOf (1 ∷ 2 ∷ 3 ∷ 4 ∷ 5 ∷ 6 ∷ []) (tagOf the-type r) → c .whenBroken ≡ refused
-    → ((d : Command) (setup : Setup) (flash memory : List ℕ) → (r ≡ Accepted → ⊥) → (r ≡ System → ⊥) → (r ≡ Argument → d .whenBroken ≡ refused)
-    → outcome a flash memory ≡ answerTo r d setup registers (lent s flash memory))
-    → outcome a flash memory ≡ obeyed c true setup registers (lent s flash memory)
-refused-left c setup registers s flash memory r a e o b promised =
-    promised c setup flash memory (not-accepted r o) (not-system c registers (lent s flash memory) r e) (λ _. b)
-    ∙ refused-by c setup registers (lent s flash memory) r e
+pub refused-left : (c : Command) (setup : Setup) (registers : List ℕ) (s : Session) (flash worn memory : List ℕ) (r : Reason) (a : Answer)
+    → r ≡ reasonOf c true registers (lent s flash worn memory) → OneOf (1 ∷ 2 ∷ 3 ∷ 4 ∷ 5 ∷ 6 ∷ []) (tagOf the-type r) → c .whenBroken ≡ refused
+    → ((d : Command) (setup : Setup) (flash worn memory : List ℕ) → (r ≡ Accepted → ⊥) → (r ≡ System → ⊥) → (r ≡ Argument → d .whenBroken ≡ refused)
+    → outcome a flash worn memory ≡ answerTo r d setup registers (lent s flash worn memory))
+    → outcome a flash worn memory ≡ obeyed c true setup registers (lent s flash worn memory)
+refused-left c setup registers s flash worn memory r a e o b promised =
+    promised c setup flash worn memory (not-accepted r o) (not-system c registers (lent s flash worn memory) r e) (λ _. b)
+    ∙ refused-by c setup registers (lent s flash worn memory) r e

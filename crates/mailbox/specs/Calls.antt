@@ -8,6 +8,6 @@ use Rattle.mailbox.specs.Commands.{Outcome}
 use Rattle.mailbox.specs.Table.{Command}
 use Rattle.mailbox.specs.Mediator.{obeyed}
 
--- by a command, of a call and both buffers
-abbrev pub obeyedBy : Command → Call → List ℕ → List ℕ → Outcome
-obeyedBy c call flash memory = obeyed c true (setUp (call .board)) (call .registers) (lent (call .session) flash memory)
+-- by a command, of a call, the flash, its map and the window memory
+abbrev pub obeyedBy : Command → Call → List ℕ → List ℕ → List ℕ → Outcome
+obeyedBy c call flash worn memory = obeyed c true (setUp (call .board)) (call .registers) (lent (call .session) flash worn memory)

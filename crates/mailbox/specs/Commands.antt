@@ -1,4 +1,4 @@
--- What each command leaves, in the order of document 01, "Commands". The session of each is that of an answered command: its number is the
+-- What each command leaves, in the order of document 01, "Commands", with 02's tickets. The session of each is that of an answered command: its number is the
 -- previous one already.
 use Prim.Native.Nat.{ℕ, _+_, _-_, min}
 use mathlib.Core.Bool.{cond}
@@ -27,12 +27,12 @@ pub record Outcome : Type 0 where
   pub actions : ℕ
 
 -- as the code has them
-abbrev pub outcome : Answer → List ℕ → List ℕ → Outcome
-outcome a flash memory = record { machine = lent (a .session) flash memory; registers = a .registers; actions = a .actions }
+abbrev pub outcome : Answer → List ℕ → List ℕ → List ℕ → Outcome
+outcome a flash worn memory = record { machine = lent (a .session) flash worn memory; registers = a .registers; actions = a .actions }
 
 -- an answer that leaves both buffers alone
 abbrev pub leaving : Answer → Machine → Outcome
-leaving a m = outcome a (m .flash) (m .memory)
+leaving a m = outcome a (m .flash) (m .worn) (m .memory)
 
 -- the same of a command that looks at the session and the registers only
 abbrev pub alone : (Session → List ℕ → Answer) → List ℕ → Machine → Outcome
@@ -102,11 +102,15 @@ hint s registers = cond (ltb (s .version) 2) 0 (number 2 2 registers)
 abbrev pub sizeFor : ℕ → ℕ → ℕ → ℕ → ℕ
 sizeFor S C o n = cond (eqb n 0) (min C (S - o)) (min (min C (S - o)) n)
 
--- "flushed if it is a write window", and dropped: what a CLOSE_WINDOW leaves that no check refuses, and a create that is refused for
--- its argument. Without a write window a sound session has no marks, so that nothing is flushed
+-- "flushed if it is a write window", and dropped, with this code and no arguments: what a CLOSE_WINDOW leaves that no check refuses and whose flush
+-- succeeds, and a create that opens no window. Without a write window a sound session has no marks, so that nothing is flushed
 abbrev pub closing : ℕ → List ℕ → Machine → Outcome
 closing code registers m =
-    outcome (answered (dropWindow (m .session)) registers code [] (flushWhole m .actions)) (flushWhole m .flash) (m .memory)
+    outcome (answered (dropWindow (m .session)) registers code [] (flushWhole m .actions)) (flushWhole m .flash) (m .worn) (m .memory)
+
+-- "WRITE_ERROR (3) comes after the argument check, but in a create before it" (02, Ticket 8): the code of a create that is refused for its argument
+abbrev pub closingFirst : ℕ → List ℕ → Machine → Outcome
+closingFirst code registers m = closing (cond (flushWhole m .failed) 3 code) registers m
 
 -- "Response: 0-1 B; version 2 also 2-3 size, 4-5 o"
 abbrev pub createArguments : ℕ → ℕ → ℕ → ℕ → List ℕ
@@ -117,28 +121,40 @@ abbrev pub opened : Window → ℕ → ℕ → Setup → List ℕ → Machine �
 opened window o size setup registers m =
     outcome
     (answered (withWindow window o size (m .session)) registers 1 (createArguments (m .session .version) (setup .lpc) size o) (flushWhole m .actions))
-    (flushWhole m .flash)
+    (flushWhole m .flash) (m .worn)
     (replace 0 (range (toBytes o) (toBytes size) (flushWhole m .flash)) (m .memory))
+
+-- "a create does too", answer WRITE_ERROR where the flush fails, "and leaves no window" (02, Ticket 8)
+abbrev pub opening : Window → ℕ → ℕ → Setup → List ℕ → Machine → Outcome
+opening window o size setup registers m = cond (flushWhole m .failed) (closing 3 registers m) (opened window o size setup registers m)
 
 abbrev pub created : Window → Setup → List ℕ → Machine → Outcome
 created window setup registers m =
-    opened window (number 2 0 registers)
+    opening window (number 2 0 registers)
     (sizeFor (roundUp (length (m .flash))) (roundUp (length (m .memory))) (number 2 0 registers) (hint (m .session) registers))
     setup registers m
+
+-- ---- FLUSH and CLOSE_WINDOW of which an erase fails: they "answer WRITE_ERROR and the window stays active", with the marks that are left (02, Ticket 8)
+abbrev pub stopped : List ℕ → Machine → Outcome
+stopped registers m =
+    outcome (answered (withMarks (flushWhole m .marks) (m .session)) registers 3 [] (flushWhole m .actions)) (flushWhole m .flash) (m .worn) (m .memory)
 
 -- ---- 5 CLOSE_WINDOW: "flushes a write window, then drops it. Without a window: success, nothing done (house). The flags of version 2 have
 -- no effect": those that `undefinedFlags` lets pass, 0 and 1 (02, Ticket 7)
 abbrev pub closed : List ℕ → Machine → Outcome
-closed registers m = closing 1 registers m
+closed registers m = cond (flushWhole m .failed) (stopped registers m) (closing 1 registers m)
 
 -- ---- 7 MARK_DIRTY: the named blocks are marked dirty
 abbrev pub dirtyAnswer : Session → List ℕ → Answer
 dirtyAnswer s registers = answered (marked dirty s registers) registers 1 [] 0
 
 -- ---- 8 FLUSH: "All marks are 0 afterwards; the window stays."
+abbrev pub flushedThrough : List ℕ → Machine → Outcome
+flushedThrough registers m =
+    outcome (answered (withMarks clean (m .session)) registers 1 [] (flushWhole m .actions)) (flushWhole m .flash) (m .worn) (m .memory)
+
 abbrev pub flushedAll : List ℕ → Machine → Outcome
-flushedAll registers m =
-    outcome (answered (withMarks clean (m .session)) registers 1 [] (flushWhole m .actions)) (flushWhole m .flash) (m .memory)
+flushedAll registers m = cond (flushWhole m .failed) (stopped registers m) (flushedThrough registers m)
 
 -- the session whose marks it flushes: at version 1 with the blocks that it marks itself
 abbrev pub flushing : Session → List ℕ → Session
@@ -154,5 +170,5 @@ ackAnswer s registers = answered (withEvents (acknowledged (argument 0 registers
 -- ---- 10 ERASE: "Those blocks are marked erased, and become FF in window memory at once."
 abbrev pub erasedOutcome : List ℕ → Machine → Outcome
 erasedOutcome registers m =
-    outcome (answered (marked erasedMark (m .session) registers) registers 1 [] 0) (m .flash)
+    outcome (answered (marked erasedMark (m .session) registers) registers 1 [] 0) (m .flash) (m .worn)
     (erased (toBytes (blocksNamed (m .session) registers .start)) (toBytes (blocksNamed (m .session) registers .count)) (m .memory))

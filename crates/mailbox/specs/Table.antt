@@ -12,7 +12,7 @@ use Rattle.session.specs.Machine.{Setup, Machine}
 use Rattle.refusals.specs.declared.Needs.{Needs}
 use Rattle.refusals.specs.declared.Needs.the-variants.{Nothing, NewNumber, Access, WriteWindow}
 use Rattle.refusals.specs.Refusals.{neverBroken, noVersion, outsideFlash, undefinedFlags, outsideWindow, flushOutside}
-use Rattle.mailbox.specs.Commands.{Outcome, alone, refused, closing, resetAnswer, informed, flashInformed, created, closed, dirtyAnswer, flushed, ackAnswer, erasedOutcome}
+use Rattle.mailbox.specs.Commands.{Outcome, alone, refused, closingFirst, resetAnswer, informed, flashInformed, created, closed, dirtyAnswer, flushed, ackAnswer, erasedOutcome}
 
 -- a command: its code, the versions that know it, what it needs, whether its argument rule is broken (of the session, the registers and S), what a
 -- refusal for that rule leaves (with the response code), and what it leaves if no check refuses
@@ -50,10 +50,10 @@ abbrev pub getFlashInfo : Command
 getFlashInfo =
     record { code = 3; known = from 1; needs = Access; broken = neverBroken; whenBroken = refused; leaves = λ setup. flashInformed }
 
--- a create of either kind: "a create refused for its argument has already closed and flushed the old window"
+-- a create of either kind: "a create refused for its argument has already closed and flushed the old window", and has told where that failed
 abbrev pub create : ℕ → Window → Command
 create code window =
-    record { code = code; known = from 1; needs = Access; broken = outsideFlash; whenBroken = closing; leaves = created window }
+    record { code = code; known = from 1; needs = Access; broken = outsideFlash; whenBroken = closingFirst; leaves = created window }
 
 -- CREATE_READ_WINDOW
 abbrev pub createReadWindow : Command

@@ -42,8 +42,8 @@ pub(crate) fn with_number(call: Call) -> Session
 // A refusal by a check after the first: the call's number becomes the previous one. A create that is refused for its
 // argument has its own answer, in windows.rt.
 pub(crate) fn refuse(call: Call, reason: Reason) -> Answer
-    ensures { λ r. ⌜ ((c : Command) (setup : Setup) (flash memory : List ℕ) → (reason ≡ Accepted → ⊥) → (reason ≡ System → ⊥) → (reason ≡ Argument → c .whenBroken ≡ refused)
-        → outcome r flash memory ≡ answerTo reason c setup (call .registers) (lent (call .session) flash memory)) ⌝ }
+    ensures { λ r. ⌜ ((c : Command) (setup : Setup) (flash worn memory : List ℕ) → (reason ≡ Accepted → ⊥) → (reason ≡ System → ⊥) → (reason ≡ Argument → c .whenBroken ≡ refused)
+        → outcome r flash worn memory ≡ answerTo reason c setup (call .registers) (lent (call .session) flash worn memory)) ⌝ }
 {
     let registers = call.registers;
     let code = code_for(call.session.version, reason);
@@ -52,7 +52,7 @@ pub(crate) fn refuse(call: Call, reason: Reason) -> Answer
 
 // A code that no version up to 2 knows.
 pub(crate) fn unknown(call: Call) -> Answer
-    ensures { λ r. ⌜ ((flash memory : List ℕ) → outcome r flash memory ≡ obeyedBy unknown call flash memory) ⌝ }
+    ensures { λ r. ⌜ ((flash worn memory : List ℕ) → outcome r flash worn memory ≡ obeyedBy unknown call flash worn memory) ⌝ }
 {
     let session = call.session;
     let registers = call.registers;

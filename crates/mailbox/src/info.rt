@@ -26,7 +26,7 @@ ghost use Rattle.mailbox.specs.Calls.{obeyedBy};
 // GET_INFO: agrees a version with the host, if its highest is not 0.
 pub(crate) fn get_info(call: Call, memory: &[u8]) -> Answer
     requires { ⌜ sizeSound 64 (length (now memory)) ≡ true ⌝ }
-    ensures { λ r. ⌜ ((flash : List ℕ) → outcome r flash (now (memory .entry)) ≡ obeyedBy getInfo call flash (now (memory .entry))) ⌝ }
+    ensures { λ r. ⌜ ((flash worn : List ℕ) → outcome r flash worn (now (memory .entry)) ≡ obeyedBy getInfo call flash worn (now (memory .entry))) ⌝ }
 {
     let session = call.session;
     let registers = call.registers;
@@ -41,8 +41,8 @@ pub(crate) fn get_info(call: Call, memory: &[u8]) -> Answer
 // GET_FLASH_INFO: tells the flash's size and erase granule.
 pub(crate) fn get_flash_info(known: bool, call: Call, flash: &[u8]) -> Answer
     requires { ⌜ sizeSound 65535 (length (now flash)) ≡ true ⌝ }
-    ensures { λ r. ⌜ ((memory : List ℕ) → known ≡ getFlashInfo .known (call .session .version)
-        → outcome r (now (flash .entry)) memory ≡ obeyedBy getFlashInfo call (now (flash .entry)) memory) ⌝ }
+    ensures { λ r. ⌜ ((worn memory : List ℕ) → known ≡ getFlashInfo .known (call .session .version)
+        → outcome r (now (flash .entry)) worn memory ≡ obeyedBy getFlashInfo call (now (flash .entry)) worn memory) ⌝ }
 {
     let session = call.session;
     let registers = call.registers;

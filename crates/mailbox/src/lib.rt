@@ -43,13 +43,14 @@ pub fn command(
     registers: [u8; 16],
     board: Board,
     flash: &mut [u8],
+    worn: &[u8],
     memory: &mut [u8],
 ) -> Answer
-    ensures { λ r. ⌜ outcome r (now (flash .exit)) (now (memory .exit))
-        ≡ mediate (setUp board) registers (lent session (now (flash .entry)) (now (memory .entry))) ⌝ }
+    ensures { λ r. ⌜ outcome r (now (flash .exit)) (now (worn .entry)) (now (memory .exit))
+        ≡ mediate (setUp board) registers (lent session (now (flash .entry)) (now (worn .entry)) (now (memory .entry))) ⌝ }
 {
     // SYSTEM_ERROR keeps the previous number
-    if !is_sound_at(session, board, flash.len(), memory.len()) {
+    if !is_sound_at(session, board, flash.len(), worn.len(), memory.len()) {
         return answer(session, registers, 4, NO_ARGUMENTS, 0);
     }
     let version = session.version;
@@ -64,11 +65,11 @@ pub fn command(
         1 => reset(call),
         2 => get_info(call, memory),
         3 => get_flash_info(version >= 1, call, flash),
-        4 => create_read_window(version >= 1, call, flash, memory),
-        5 => close_window(version >= 1, call, flash, memory),
-        6 => create_write_window(version >= 1, call, flash, memory),
+        4 => create_read_window(version >= 1, call, flash, worn, memory),
+        5 => close_window(version >= 1, call, flash, worn, memory),
+        6 => create_write_window(version >= 1, call, flash, worn, memory),
         7 => mark_dirty(version >= 1, call),
-        8 => flush(version >= 1, call, flash, memory),
+        8 => flush(version >= 1, call, flash, worn, memory),
         9 => acknowledge(call),
         10 => erase(version >= 2, call, memory),
         11..=255 => unknown(call),

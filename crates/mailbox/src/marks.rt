@@ -1,6 +1,7 @@
 // MARK_DIRTY, ERASE, FLUSH and ACK.
 use crate::Answer;
 use crate::answers::answer;
+use crate::answers::stopped;
 use crate::calls::Call;
 use crate::calls::refuse;
 use crate::calls::with_number;
@@ -40,8 +41,8 @@ ghost use Rattle.mailbox.specs.Calls.{obeyedBy};
 // MARK_DIRTY: the named blocks are marked dirty, if they lie in the window.
 pub(crate) fn mark_dirty(known: bool, call: Call) -> Answer
     requires { ⌜ (call .session .size ≤ 64) × (call .session .counts ≡ countsOf (call .session .marks)) ⌝ }
-    ensures { λ r. ⌜ ((flash memory : List ℕ) → known ≡ markDirty .known (call .session .version)
-        → outcome r flash memory ≡ obeyedBy markDirty call flash memory) ⌝ }
+    ensures { λ r. ⌜ ((flash worn memory : List ℕ) → known ≡ markDirty .known (call .session .version)
+        → outcome r flash worn memory ≡ obeyedBy markDirty call flash worn memory) ⌝ }
 {
     let session = call.session;
     let registers = call.registers;
@@ -58,8 +59,8 @@ pub(crate) fn mark_dirty(known: bool, call: Call) -> Answer
 pub(crate) fn erase(known: bool, call: Call, memory: &mut [u8]) -> Answer
     requires { ⌜ (call .session .size ≤ 64) × (toBytes (call .session .size) ≤ length (now memory)) ⌝ }
     requires { ⌜ call .session .counts ≡ countsOf (call .session .marks) ⌝ }
-    ensures { λ r. ⌜ ((flash : List ℕ) → known ≡ erase .known (call .session .version)
-        → outcome r flash (now (memory .exit)) ≡ obeyedBy erase call flash (now (memory .entry))) ⌝ }
+    ensures { λ r. ⌜ ((flash worn : List ℕ) → known ≡ erase .known (call .session .version)
+        → outcome r flash worn (now (memory .exit)) ≡ obeyedBy erase call flash worn (now (memory .entry))) ⌝ }
 {
     let session = call.session;
     let registers = call.registers;
@@ -72,10 +73,10 @@ pub(crate) fn erase(known: bool, call: Call, memory: &mut [u8]) -> Answer
 }
 
 // FLUSH: the marked blocks are flushed, if those that it marks itself lie in the window.
-pub(crate) fn flush(known: bool, call: Call, flash: &mut [u8], memory: &[u8]) -> Answer
+pub(crate) fn flush(known: bool, call: Call, flash: &mut [u8], worn: &[u8], memory: &[u8]) -> Answer
     requires { ⌜ (call .session .size ≤ 64) × (call .session .counts ≡ countsOf (call .session .marks)) ⌝ }
     ensures { λ r. ⌜ (known ≡ flush .known (call .session .version)
-        → outcome r (now (flash .exit)) (now (memory .entry)) ≡ obeyedBy flush call (now (flash .entry)) (now (memory .entry))) ⌝ }
+        → outcome r (now (flash .exit)) (now (worn .entry)) (now (memory .entry)) ≡ obeyedBy flush call (now (flash .entry)) (now (worn .entry)) (now (memory .entry))) ⌝ }
 {
     let session = call.session;
     let registers = call.registers;
@@ -84,12 +85,12 @@ pub(crate) fn flush(known: bool, call: Call, flash: &mut [u8], memory: &[u8]) ->
     let Reason::Accepted = reason else {
         return refuse(call, reason);
     };
-    flush_named(with_number(call), registers, flash, memory)
+    flush_named(with_number(call), registers, flash, worn, memory)
 }
 
 // ACK: clears those of the two events that argument 0 names, and no other bit.
 pub(crate) fn acknowledge(call: Call) -> Answer
-    ensures { λ r. ⌜ ((flash memory : List ℕ) → outcome r flash memory ≡ obeyedBy ack call flash memory) ⌝ }
+    ensures { λ r. ⌜ ((flash worn memory : List ℕ) → outcome r flash worn memory ≡ obeyedBy ack call flash worn memory) ⌝ }
 {
     let session = call.session;
     let registers = call.registers;
@@ -108,7 +109,7 @@ fn erase_named(session: Session, registers: [u8; 16], memory: &mut [u8]) -> Answ
     requires { ⌜ blocksNamed session registers .start + blocksNamed session registers .count ≤ 64 ⌝ }
     requires { ⌜ toBytes (blocksNamed session registers .start) + toBytes (blocksNamed session registers .count) ≤ length (now memory) ⌝ }
     requires { ⌜ session .counts ≡ countsOf (session .marks) ⌝ }
-    ensures { λ r. ⌜ ((flash : List ℕ) → outcome r flash (now (memory .exit)) ≡ erasedOutcome registers (lent session flash (now (memory .entry)))) ⌝ }
+    ensures { λ r. ⌜ ((flash worn : List ℕ) → outcome r flash worn (now (memory .exit)) ≡ erasedOutcome registers (lent session flash worn (now (memory .entry)))) ⌝ }
 {
     let named = blocks_named(session, registers);
     let start = Blocks(named.start).bytes().0 as usize;
@@ -124,27 +125,50 @@ fn erase_named(session: Session, registers: [u8; 16], memory: &mut [u8]) -> Answ
 }
 
 // The marked blocks are flushed; at version 1 the named ones are marked dirty first.
-fn flush_named(session: Session, registers: [u8; 16], flash: &mut [u8], memory: &[u8]) -> Answer
+fn flush_named(
+    session: Session,
+    registers: [u8; 16],
+    flash: &mut [u8],
+    worn: &[u8],
+    memory: &[u8],
+) -> Answer
     requires { ⌜ (flushMarks session registers ≡ true → blocksNamed session registers .start + blocksNamed session registers .count ≤ 64) ⌝ }
     requires { ⌜ session .counts ≡ countsOf (session .marks) ⌝ }
-    ensures { λ r. ⌜ outcome r (now (flash .exit)) (now (memory .entry)) ≡ flushed registers (lent session (now (flash .entry)) (now (memory .entry))) ⌝ }
+    ensures { λ r. ⌜ outcome r (now (flash .exit)) (now (worn .entry)) (now (memory .entry)) ≡ flushed registers (lent session (now (flash .entry)) (now (worn .entry)) (now (memory .entry))) ⌝ }
 {
     if flush_marks(session, registers) {
         return flush_all(
             mark_named(session, registers, DIRTY),
             registers,
             flash,
+            worn,
             memory,
         );
     }
-    flush_all(session, registers, flash, memory)
+    flush_all(session, registers, flash, worn, memory)
 }
 
-fn flush_all(session: Session, registers: [u8; 16], flash: &mut [u8], memory: &[u8]) -> Answer
-    ensures { λ r. ⌜ outcome r (now (flash .exit)) (now (memory .entry)) ≡ flushedAll registers (lent session (now (flash .entry)) (now (memory .entry))) ⌝ }
+// All marked blocks are flushed, up to the first whose erase fails.
+fn flush_all(
+    session: Session,
+    registers: [u8; 16],
+    flash: &mut [u8],
+    worn: &[u8],
+    memory: &[u8],
+) -> Answer
+    ensures { λ r. ⌜ outcome r (now (flash .exit)) (now (worn .entry)) (now (memory .entry)) ≡ flushedAll registers (lent session (now (flash .entry)) (now (worn .entry)) (now (memory .entry))) ⌝ }
 {
-    let actions = flush_window(session, flash, memory);
-    answer(without_marks(session), registers, 1, NO_ARGUMENTS, actions)
+    let flush = flush_window(session, flash, worn, memory);
+    if flush.failed {
+        return stopped(session, registers, flush);
+    }
+    answer(
+        without_marks(session),
+        registers,
+        1,
+        NO_ARGUMENTS,
+        flush.actions,
+    )
 }
 
 // The session with one mark at each named block.

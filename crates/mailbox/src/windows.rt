@@ -1,6 +1,9 @@
 // RESET, CREATE_READ_WINDOW, CREATE_WRITE_WINDOW and CLOSE_WINDOW.
 use crate::Answer;
+use crate::answers::WRITE_ERROR;
 use crate::answers::answer;
+use crate::answers::dropped;
+use crate::answers::stopped;
 use crate::calls::Call;
 use crate::calls::refuse;
 use crate::calls::with_number;
@@ -10,13 +13,11 @@ use refusals::Needs;
 use refusals::Reason;
 use refusals::reason_for;
 use refusals::undefined_flags;
-use registers::NO_ARGUMENTS;
 use registers::read_words;
 use session::Board;
 use session::Session;
 use session::Window;
 use session::with_window;
-use session::without_window;
 use units::Blocks;
 use units::Bytes;
 ghost use mathlib.Core.Path.{_≡_};
@@ -33,14 +34,14 @@ ghost use Rattle.registers.specs.Registers.{number};
 ghost use Rattle.refusals.specs.declared.Reason.the-variants.{Accepted, System};
 ghost use Rattle.refusals.specs.declared.Needs.the-variants.{Access};
 ghost use Rattle.refusals.specs.Refusals.{outsideFlash, reasonFor};
-ghost use Rattle.mailbox.specs.Commands.{outcome, answered, closing, sizeFor, createArguments, opened, created};
+ghost use Rattle.mailbox.specs.Commands.{outcome, answered, closingFirst, sizeFor, createArguments, opening, created, closed};
 ghost use Rattle.mailbox.specs.Table.{reset, create, createReadWindow, createWriteWindow, closeWindow};
 ghost use Rattle.mailbox.specs.Mediator.{answerTo};
 ghost use Rattle.mailbox.specs.Calls.{obeyedBy};
 
 // RESET: the window and its marks are dropped, without a flush.
 pub(crate) fn reset(call: Call) -> Answer
-    ensures { λ r. ⌜ ((flash memory : List ℕ) → outcome r flash memory ≡ obeyedBy reset call flash memory) ⌝ }
+    ensures { λ r. ⌜ ((flash worn memory : List ℕ) → outcome r flash worn memory ≡ obeyedBy reset call flash worn memory) ⌝ }
 {
     let session = call.session;
     let registers = call.registers;
@@ -48,14 +49,19 @@ pub(crate) fn reset(call: Call) -> Answer
     let Reason::Accepted = reason else {
         return refuse(call, reason);
     };
-    let next = without_window(with_number(call));
-    answer(next, registers, 1, NO_ARGUMENTS, 0)
+    dropped(with_number(call), registers, 1, 0)
 }
 
 // CLOSE_WINDOW: the window is flushed and dropped, if the flags in argument 0 are defined.
-pub(crate) fn close_window(known: bool, call: Call, flash: &mut [u8], memory: &[u8]) -> Answer
+pub(crate) fn close_window(
+    known: bool,
+    call: Call,
+    flash: &mut [u8],
+    worn: &[u8],
+    memory: &[u8],
+) -> Answer
     ensures { λ r. ⌜ (known ≡ closeWindow .known (call .session .version)
-        → outcome r (now (flash .exit)) (now (memory .entry)) ≡ obeyedBy closeWindow call (now (flash .entry)) (now (memory .entry))) ⌝ }
+        → outcome r (now (flash .exit)) (now (worn .entry)) (now (memory .entry)) ≡ obeyedBy closeWindow call (now (flash .entry)) (now (worn .entry)) (now (memory .entry))) ⌝ }
 {
     let session = call.session;
     let registers = call.registers;
@@ -64,7 +70,7 @@ pub(crate) fn close_window(known: bool, call: Call, flash: &mut [u8], memory: &[
     let Reason::Accepted = reason else {
         return refuse(call, reason);
     };
-    close(with_number(call), registers, 1, flash, memory)
+    close(with_number(call), registers, flash, worn, memory)
 }
 
 // CREATE_READ_WINDOW: opens a window for reading. The creates differ in the window alone, and are two functions so that
@@ -73,15 +79,16 @@ pub(crate) fn create_read_window(
     known: bool,
     call: Call,
     flash: &mut [u8],
+    worn: &[u8],
     memory: &mut [u8],
 ) -> Answer
     requires { ⌜ (sizeSound 65535 (length (now flash)) ≡ true) × (sizeSound 64 (length (now memory)) ≡ true) ⌝ }
     ensures { λ r. ⌜ (known ≡ createReadWindow .known (call .session .version)
-        → outcome r (now (flash .exit)) (now (memory .exit)) ≡ obeyedBy createReadWindow call (now (flash .entry)) (now (memory .entry))) ⌝ }
+        → outcome r (now (flash .exit)) (now (worn .entry)) (now (memory .exit)) ≡ obeyedBy createReadWindow call (now (flash .entry)) (now (worn .entry)) (now (memory .entry))) ⌝ }
 {
     let reason = create_reason(known, call, flash.len());
     let Reason::Accepted = reason else {
-        return refuse_create(call, reason, flash, memory);
+        return refuse_create(call, reason, flash, worn, memory);
     };
     let registers = call.registers;
     open_at(
@@ -90,6 +97,7 @@ pub(crate) fn create_read_window(
         registers,
         call.board,
         flash,
+        worn,
         memory,
     )
 }
@@ -99,15 +107,16 @@ pub(crate) fn create_write_window(
     known: bool,
     call: Call,
     flash: &mut [u8],
+    worn: &[u8],
     memory: &mut [u8],
 ) -> Answer
     requires { ⌜ (sizeSound 65535 (length (now flash)) ≡ true) × (sizeSound 64 (length (now memory)) ≡ true) ⌝ }
     ensures { λ r. ⌜ (known ≡ createWriteWindow .known (call .session .version)
-        → outcome r (now (flash .exit)) (now (memory .exit)) ≡ obeyedBy createWriteWindow call (now (flash .entry)) (now (memory .entry))) ⌝ }
+        → outcome r (now (flash .exit)) (now (worn .entry)) (now (memory .exit)) ≡ obeyedBy createWriteWindow call (now (flash .entry)) (now (worn .entry)) (now (memory .entry))) ⌝ }
 {
     let reason = create_reason(known, call, flash.len());
     let Reason::Accepted = reason else {
-        return refuse_create(call, reason, flash, memory);
+        return refuse_create(call, reason, flash, worn, memory);
     };
     let registers = call.registers;
     open_at(
@@ -116,6 +125,7 @@ pub(crate) fn create_write_window(
         registers,
         call.board,
         flash,
+        worn,
         memory,
     )
 }
@@ -133,30 +143,50 @@ fn create_reason(known: bool, call: Call, flash: usize) -> Reason
 }
 
 // A create that is refused: for its argument the active window is closed all the same.
-fn refuse_create(call: Call, reason: Reason, flash: &mut [u8], memory: &[u8]) -> Answer
+fn refuse_create(call: Call, reason: Reason, flash: &mut [u8], worn: &[u8], memory: &[u8]) -> Answer
     ensures { λ r. ⌜ ((code : ℕ) (window : Window) (setup : Setup) → (reason ≡ Accepted → ⊥) → (reason ≡ System → ⊥)
-        → outcome r (now (flash .exit)) (now (memory .entry))
-        ≡ answerTo reason (create code window) setup (call .registers) (lent (call .session) (now (flash .entry)) (now (memory .entry)))) ⌝ }
+        → outcome r (now (flash .exit)) (now (worn .entry)) (now (memory .entry))
+        ≡ answerTo reason (create code window) setup (call .registers) (lent (call .session) (now (flash .entry)) (now (worn .entry)) (now (memory .entry)))) ⌝ }
 {
     let registers = call.registers;
     match reason {
-        Reason::Argument => close(with_number(call), registers, 2, flash, memory),
+        Reason::Argument => close_first(with_number(call), registers, flash, worn, memory),
         _ => refuse(call, reason),
     }
 }
 
-// The window is flushed and dropped; the code is that of the answer.
-fn close(session: Session, registers: [u8; 16], code: u8, flash: &mut [u8], memory: &[u8]) -> Answer
-    ensures { λ r. ⌜ outcome r (now (flash .exit)) (now (memory .entry)) ≡ closing code registers (lent session (now (flash .entry)) (now (memory .entry))) ⌝ }
+// The window is flushed and dropped; where an erase fails it stays.
+fn close(
+    session: Session,
+    registers: [u8; 16],
+    flash: &mut [u8],
+    worn: &[u8],
+    memory: &[u8],
+) -> Answer
+    ensures { λ r. ⌜ outcome r (now (flash .exit)) (now (worn .entry)) (now (memory .entry)) ≡ closed registers (lent session (now (flash .entry)) (now (worn .entry)) (now (memory .entry))) ⌝ }
 {
-    let actions = flush_window(session, flash, memory);
-    answer(
-        without_window(session),
-        registers,
-        code,
-        NO_ARGUMENTS,
-        actions,
-    )
+    let flush = flush_window(session, flash, worn, memory);
+    if flush.failed {
+        return stopped(session, registers, flush);
+    }
+    dropped(session, registers, 1, flush.actions)
+}
+
+// The window of a create whose argument is bad is flushed and dropped all the same; a failed erase is told before the argument.
+fn close_first(
+    session: Session,
+    registers: [u8; 16],
+    flash: &mut [u8],
+    worn: &[u8],
+    memory: &[u8],
+) -> Answer
+    ensures { λ r. ⌜ outcome r (now (flash .exit)) (now (worn .entry)) (now (memory .entry)) ≡ closingFirst 2 registers (lent session (now (flash .entry)) (now (worn .entry)) (now (memory .entry))) ⌝ }
+{
+    let flush = flush_window(session, flash, worn, memory);
+    if flush.failed {
+        return dropped(session, registers, WRITE_ERROR, flush.actions);
+    }
+    dropped(session, registers, 2, flush.actions)
 }
 
 // The active window is closed, and a new one is opened at a block of the flash.
@@ -166,13 +196,14 @@ fn open_at(
     registers: [u8; 16],
     board: Board,
     flash: &mut [u8],
+    worn: &[u8],
     memory: &mut [u8],
 ) -> Answer
     requires { ⌜ number 2 0 registers < roundUp (length (now flash)) ⌝ }
     requires { ⌜ (toBytes (roundUp (length (now flash))) ≡ length (now flash)) × (roundUp (length (now flash)) ≤ 65535) ⌝ }
     requires { ⌜ (toBytes (roundUp (length (now memory))) ≡ length (now memory)) × (roundUp (length (now memory)) ≤ 64) ⌝ }
-    ensures { λ r. ⌜ outcome r (now (flash .exit)) (now (memory .exit))
-        ≡ created window (setUp board) registers (lent session (now (flash .entry)) (now (memory .entry))) ⌝ }
+    ensures { λ r. ⌜ outcome r (now (flash .exit)) (now (worn .entry)) (now (memory .exit))
+        ≡ created window (setUp board) registers (lent session (now (flash .entry)) (now (worn .entry)) (now (memory .entry))) ⌝ }
 {
     let words = read_words(registers);
     let first = words.first;
@@ -186,6 +217,7 @@ fn open_at(
         registers,
         board,
         flash,
+        worn,
         memory,
     )
 }
@@ -217,7 +249,8 @@ fn window_size(flash: usize, memory: usize, first: u16, hint: u16) -> u16
     least(most, hint as u32) as u16
 }
 
-// The active window is flushed, and the blocks of the new one are copied to the front of the memory.
+// The active window is flushed, and the blocks of the new one are copied to the front of the memory. Where an erase fails
+// there is no window afterwards.
 fn open_window(
     window: Window,
     first: u16,
@@ -226,20 +259,24 @@ fn open_window(
     registers: [u8; 16],
     board: Board,
     flash: &mut [u8],
+    worn: &[u8],
     memory: &mut [u8],
 ) -> Answer
     requires { ⌜ toBytes first + toBytes size ≤ length (now flash) ⌝ }
     requires { ⌜ toBytes size ≤ length (now memory) ⌝ }
-    ensures { λ r. ⌜ outcome r (now (flash .exit)) (now (memory .exit))
-        ≡ opened window first size (setUp board) registers (lent session (now (flash .entry)) (now (memory .entry))) ⌝ }
+    ensures { λ r. ⌜ outcome r (now (flash .exit)) (now (worn .entry)) (now (memory .exit))
+        ≡ opening window first size (setUp board) registers (lent session (now (flash .entry)) (now (worn .entry)) (now (memory .entry))) ⌝ }
 {
-    let actions = flush_window(session, flash, memory);
+    let flush = flush_window(session, flash, worn, memory);
+    if flush.failed {
+        return dropped(session, registers, WRITE_ERROR, flush.actions);
+    }
     copy_blocks(flash, memory, first, size);
     open_answer(
         with_window(session, window, first, size),
         registers,
         board.lpc,
-        actions,
+        flush.actions,
     )
 }
 

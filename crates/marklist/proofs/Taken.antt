@@ -96,22 +96,22 @@ kept Malformed list s o = refl
 kept (Outside place) list s o = refl
 
 -- the pairs of a list that is marked lie in the 64 marks
-pub within-marks : (setup : Setup) (flash memory : ℕ) (list : List ℕ) (s : Session) → answerFor (soundAt setup flash memory s) list s ≡ Marked
+pub within-marks : (setup : Setup) (flash worn memory : ℕ) (list : List ℕ) (s : Session) → answerFor (soundAt setup flash worn memory s) list s ≡ Marked
     → firstOutside 64 0 (pairsOf list) ≡ Marked
-within-marks setup flash memory list s e =
-    let t = taken (soundAt setup flash memory s) list s Marked refl e in
-    let m = measured setup flash memory s (t .0 .sounds) in
+within-marks setup flash worn memory list s e =
+    let t = taken (soundAt setup flash worn memory s) list s Marked refl e in
+    let m = measured setup flash worn memory s (t .0 .sounds) in
     let small : s .size ≤ 64 = omega (arith, m .fits .in-memory, m .memory-sized .few) in
     inside-larger (s .size) 64 0 (pairsOf list) small (t .1)
 
 -- what the call leaves: the session as it was, or where it answers that it marked, marked
-pub listed-left : (P : Session → Type 0) (setup : Setup) (flash memory : ℕ) (list : List ℕ) (s : Session) → P s
-    → (answerFor (soundAt setup flash memory s) list s ≡ Marked → P (withMarks (markPairs (pairsOf list) (s .marks)) s))
-    → P (listed setup flash memory list s .session)
+pub listed-left : (P : Session → Type 0) (setup : Setup) (flash worn memory : ℕ) (list : List ℕ) (s : Session) → P s
+    → (answerFor (soundAt setup flash worn memory s) list s ≡ Marked → P (withMarks (markPairs (pairsOf list) (s .marks)) s))
+    → P (listed setup flash worn memory list s .session)
 unfolding listed
-listed-left P setup flash memory list s same marked = go (answerFor (soundAt setup flash memory s) list s) refl
+listed-left P setup flash worn memory list s same marked = go (answerFor (soundAt setup flash worn memory s) list s) refl
   where
-    go : (a : ListAnswer) → answerFor (soundAt setup flash memory s) list s ≡ a → P (sessionFor a list s)
+    go : (a : ListAnswer) → answerFor (soundAt setup flash worn memory s) list s ≡ a → P (sessionFor a list s)
     go Marked e = marked e
     go Unsound e = same
     go OtherVersion e = same
@@ -123,22 +123,22 @@ listed-left P setup flash memory list s same marked = go (answerFor (soundAt set
 pub list-left : (P : Session → Type 0) (setup : Setup) (list : List ℕ) (m : Machine) → P (m .session)
     → (answerFor (soundIn setup m) list (m .session) ≡ Marked → P (withMarks (markPairs (pairsOf list) (m .session .marks)) (m .session)))
     → P (listedIn setup list m .session)
-list-left P setup list m = listed-left P setup (length (m .flash)) (length (m .memory)) list (m .session)
+list-left P setup list m = listed-left P setup (length (m .flash)) (length (m .worn)) (length (m .memory)) list (m .session)
 
 -- its answer
-pub listed-answer : (setup : Setup) (flash memory : ℕ) (list : List ℕ) (s : Session)
-    → listed setup flash memory list s .answer ≡ answerFor (soundAt setup flash memory s) list s
+pub listed-answer : (setup : Setup) (flash worn memory : ℕ) (list : List ℕ) (s : Session)
+    → listed setup flash worn memory list s .answer ≡ answerFor (soundAt setup flash worn memory s) list s
 unfolding listed
-listed-answer setup flash memory list s = refl
+listed-answer setup flash worn memory list s = refl
 
 pub list-answer : (setup : Setup) (list : List ℕ) (m : Machine) → listedIn setup list m .answer ≡ answerFor (soundIn setup m) list (m .session)
-list-answer setup list m = listed-answer setup (length (m .flash)) (length (m .memory)) list (m .session)
+list-answer setup list m = listed-answer setup (length (m .flash)) (length (m .worn)) (length (m .memory)) list (m .session)
 
 -- both, where the sizes, B or the session are not sound
-pub listed-unsound : (setup : Setup) (flash memory : ℕ) (list : List ℕ) (s : Session) → soundAt setup flash memory s ≡ false
-    → listed setup flash memory list s ≡ record { session = s; answer = Unsound }
+pub listed-unsound : (setup : Setup) (flash worn memory : ℕ) (list : List ℕ) (s : Session) → soundAt setup flash worn memory s ≡ false
+    → listed setup flash worn memory list s ≡ record { session = s; answer = Unsound }
 unfolding listed answerFor
-listed-unsound setup flash memory list s e = rw e
+listed-unsound setup flash worn memory list s e = rw e
 
 -- the code that the pairs give is 1 or 2
 pub pairs-code : (P : ℕ → Type 0) → P 1 → P 2 → (size place : ℕ) (pairs : List Pair) → P (listCode (firstOutside size place pairs))

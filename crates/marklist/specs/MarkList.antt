@@ -100,17 +100,17 @@ sessionFor Windowless list s = s
 sessionFor Malformed list s = s
 sessionFor (Outside place) list s = s
 
--- what the call answers and leaves, of the lengths of both buffers in bytes
-unfoldable pub listed : Setup → ℕ → ℕ → List ℕ → Session → Listed
-listed setup flash memory list s =
+-- what the call answers and leaves, of the lengths of the flash, its map and the window memory in bytes
+unfoldable pub listed : Setup → ℕ → ℕ → ℕ → List ℕ → Session → Listed
+listed setup flash worn memory list s =
     record {
-      session = sessionFor (answerFor (soundAt setup flash memory s) list s) list s;
-      answer = answerFor (soundAt setup flash memory s) list s;
+      session = sessionFor (answerFor (soundAt setup flash worn memory s) list s) list s;
+      answer = answerFor (soundAt setup flash worn memory s) list s;
     }
 
 -- the same, of what a call is given
 abbrev pub listedIn : Setup → List ℕ → Machine → Listed
-listedIn setup list m = listed setup (length (m .flash)) (length (m .memory)) list (m .session)
+listedIn setup list m = listed setup (length (m .flash)) (length (m .worn)) (length (m .memory)) list (m .session)
 
 -- neither buffer is touched
 abbrev pub afterList : Setup → List ℕ → Machine → Machine

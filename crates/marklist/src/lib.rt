@@ -1,7 +1,7 @@
 // Up to 64 pairs of window block and count, marked dirty in one call at version 2, or none of them.
 //
-// Every list, every session record and every length gets an answer. Neither buffer's bytes are touched, so that their
-// lengths are enough.
+// Every list, every session record and every length gets an answer. No byte of the flash, its map and the window
+// memory is touched, so that their lengths are enough.
 mod pairs;
 
 use pairs::first_outside;
@@ -43,11 +43,12 @@ pub fn mark_list(
     list: &[u16],
     board: Board,
     flash: usize,
+    worn: usize,
     memory: usize,
 ) -> Listed
-    ensures { λ r. ⌜ r ≡ listed (setUp board) flash memory (now (list .entry)) session ⌝ }
+    ensures { λ r. ⌜ r ≡ listed (setUp board) flash worn memory (now (list .entry)) session ⌝ }
 {
-    let sound = is_sound_at(session, board, flash, memory);
+    let sound = is_sound_at(session, board, flash, worn, memory);
     let answer = check(session, list, sound);
     let ListAnswer::Marked = answer else {
         return Listed { session, answer };

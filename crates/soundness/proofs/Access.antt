@@ -34,29 +34,29 @@ acknowledged-access b named events e =
 cleared : (events : ℕ) → accessSound false (clearBits controlLost events) ≡ true
 cleared events = ap not (cleared-bit controlLost controlLost events refl refl)
 
-module _ (flash memory : ℕ) (s : Session) (e : sound flash memory s ≡ true) where
+module _ (flash worn memory : ℕ) (s : Session) (e : sound flash worn memory s ≡ true) where
   f : Fitting (roundUp flash) (roundUp memory) s
-  f = fitting (roundUp flash) (roundUp memory) s (sizes flash memory s e .2)
+  f = fitting (roundUp flash) (roundUp memory) s (sizes flash worn memory s e .2)
 
-  either : (acts : Bool) (t : Session) → sound flash memory t ≡ true → sound flash memory (answer acts s t .session) ≡ true
-  either acts t h = either-way (λ (u : Session). sound flash memory u ≡ true) acts s t e h
+  either : (acts : Bool) (t : Session) → sound flash worn memory t ≡ true → sound flash worn memory (answer acts s t .session) ≡ true
+  either acts t h = either-way (λ (u : Session). sound flash worn memory u ≡ true) acts s t e h
 
-  pub suspended-sound : sound flash memory (suspended s .session) ≡ true
+  pub suspended-sound : sound flash worn memory (suspended s .session) ≡ true
   suspended-sound =
       let t = withAccess true (setBits controlLost (s .events)) s in
-      either (not (s .suspended)) t (refitted flash memory s t e (f .known) (set-bit controlLost (s .events)) (f .window) (f .marks) (f .counts))
+      either (not (s .suspended)) t (refitted flash worn memory s t e (f .known) (set-bit controlLost (s .events)) (f .window) (f .marks) (f .counts))
 
-  pub resumed-sound : sound flash memory (resumed s .session) ≡ true
+  pub resumed-sound : sound flash worn memory (resumed s .session) ≡ true
   resumed-sound =
       let t = withAccess false (clearBits controlLost (s .events)) s in
-      either (s .suspended) t (refitted flash memory s t e (f .known) (cleared (s .events)) (f .window) (f .marks) (f .counts))
+      either (s .suspended) t (refitted flash worn memory s t e (f .known) (cleared (s .events)) (f .window) (f .marks) (f .counts))
 
-  pub changed-sound : sound flash memory (resumedChanged s .session) ≡ true
+  pub changed-sound : sound flash worn memory (resumedChanged s .session) ≡ true
   changed-sound =
       let events = setBits windowReset (clearBits controlLost (s .events)) in
       let t = dropWindow (withAccess false events s) in
       either (s .suspended) t
-      (refitted flash memory s t e (f .known)
+      (refitted flash worn memory s t e (f .known)
       (same-access false events (clearBits controlLost (s .events))
       (same-bit windowReset controlLost events (clearBits controlLost (s .events)) refl (set-within windowReset windowReset (clearBits controlLost (s .events)) refl))
       ∙ cleared (s .events))

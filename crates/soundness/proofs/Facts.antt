@@ -33,13 +33,14 @@ sized most length e =
 pub counted : (most length : ℕ) → most < 65536 → Sized most length → toBlocks length ≡ roundUp length
 counted most length h s = omega arith
 
-pub sizes : (flash memory : ℕ) (s : Session) → sound flash memory s ≡ true
-    → (sizeSound 65535 flash ≡ true) × (sizeSound 64 memory ≡ true) × (sessionSound (roundUp flash) (roundUp memory) s ≡ true)
+pub sizes : (flash worn memory : ℕ) (s : Session) → sound flash worn memory s ≡ true
+    → (sizeSound 65535 flash ≡ true) × (sizeSound 64 memory ≡ true) × (sessionSound (roundUp flash) (roundUp memory) s ≡ true) × (worn ≡ roundUp flash)
 unfolding sound sizesSound
-sizes flash memory s e =
+sizes flash worn memory s e =
     let p = both _ _ e in
     let q = both _ _ (p .0) in
-    (q .0, q .1, p .1)
+    let r = both _ _ (q .1) in
+    (q .0, r .0, p .1, eqb-true worn (roundUp flash) (r .1))
 
 active-within : (first size S C : ℕ) → activeSound first size S C ≡ true → (first + size ≤ S) × (size ≤ C)
 active-within first size S C e =
@@ -86,61 +87,63 @@ fitting S C s e =
     }
 
 -- the kept numbers are those of the marks
-pub counts-right : (flash memory : ℕ) (s : Session) → sound flash memory s ≡ true → s .counts ≡ countsOf (s .marks)
-counts-right flash memory s e = fitting (roundUp flash) (roundUp memory) s (sizes flash memory s e .2) .counts
+pub counts-right : (flash worn memory : ℕ) (s : Session) → sound flash worn memory s ≡ true → s .counts ≡ countsOf (s .marks)
+counts-right flash worn memory s e = fitting (roundUp flash) (roundUp memory) s (sizes flash worn memory s e .2) .counts
 
 -- where they are not, it is not sound
-pub miscounted : (flash memory : ℕ) (s : Session) → (s .counts ≡ countsOf (s .marks) → ⊥) → sound flash memory s ≡ false
-miscounted flash memory s apart =
-    ⊎-elim (λ (e : sound flash memory s ≡ true). absurd (apart (counts-right flash memory s e))) (λ (e : sound flash memory s ≡ false). e)
-    (decided (sound flash memory s))
+pub miscounted : (flash worn memory : ℕ) (s : Session) → (s .counts ≡ countsOf (s .marks) → ⊥) → sound flash worn memory s ≡ false
+miscounted flash worn memory s apart =
+    ⊎-elim (λ (e : sound flash worn memory s ≡ true). absurd (apart (counts-right flash worn memory s e))) (λ (e : sound flash worn memory s ≡ false). e)
+    (decided (sound flash worn memory s))
 
 -- and the other way: a session that fits the sizes of a sound one is sound
-pub refitted : (flash memory : ℕ) (s t : Session) → sound flash memory s ≡ true → t .version ≤ 2
+pub refitted : (flash worn memory : ℕ) (s t : Session) → sound flash worn memory s ≡ true → t .version ≤ 2
     → accessSound (t .suspended) (t .events) ≡ true → windowSound (t .window) (t .first) (t .size) (roundUp flash) (roundUp memory) ≡ true → marksSound (markable (t .window) (t .size)) (t .marks) ≡ true
-    → t .counts ≡ countsOf (t .marks) → sound flash memory t ≡ true
+    → t .counts ≡ countsOf (t .marks) → sound flash worn memory t ≡ true
 unfolding sound sessionSound
-refitted flash memory s t e v a w m n =
-    rw (both (sizesSound flash memory) _ e .0, le-leb (t .version) 2 v, a, w, m) (same-counts (t .counts) (countsOf (t .marks)) n)
+refitted flash worn memory s t e v a w m n =
+    rw (both (sizesSound flash worn memory) _ e .0, le-leb (t .version) 2 v, a, w, m) (same-counts (t .counts) (countsOf (t .marks)) n)
 
 -- and with B, which no session has a part in
-pub sound-with : (setup : Setup) (flash memory : ℕ) (s t : Session) → soundAt setup flash memory s ≡ true → sound flash memory t ≡ true
-    → soundAt setup flash memory t ≡ true
+pub sound-with : (setup : Setup) (flash worn memory : ℕ) (s t : Session) → soundAt setup flash worn memory s ≡ true → sound flash worn memory t ≡ true
+    → soundAt setup flash worn memory t ≡ true
 unfolding soundAt
-sound-with setup flash memory s t e h = rw (both (sound flash memory s) _ e .1, h)
+sound-with setup flash worn memory s t e h = rw (both (sound flash worn memory s) _ e .1, h)
 
-pub refitted-at : (setup : Setup) (flash memory : ℕ) (s t : Session) → soundAt setup flash memory s ≡ true → t .version ≤ 2
+pub refitted-at : (setup : Setup) (flash worn memory : ℕ) (s t : Session) → soundAt setup flash worn memory s ≡ true → t .version ≤ 2
     → accessSound (t .suspended) (t .events) ≡ true → windowSound (t .window) (t .first) (t .size) (roundUp flash) (roundUp memory) ≡ true → marksSound (markable (t .window) (t .size)) (t .marks) ≡ true
-    → t .counts ≡ countsOf (t .marks) → soundAt setup flash memory t ≡ true
+    → t .counts ≡ countsOf (t .marks) → soundAt setup flash worn memory t ≡ true
 unfolding soundAt
-refitted-at setup flash memory s t e v a w m n =
-    sound-with setup flash memory s t e (refitted flash memory s t (both (sound flash memory s) _ e .0) v a w m n)
+refitted-at setup flash worn memory s t e v a w m n =
+    sound-with setup flash worn memory s t e (refitted flash worn memory s t (both (sound flash worn memory s) _ e .0) v a w m n)
 
--- and in bytes: the window's part lies in the flash, and its blocks in the window memory
-pub part-within : (flash memory : ℕ) (s : Session) → sound flash memory s ≡ true
-    → (toBytes (s .first) + toBytes (s .size) ≤ flash) × (toBytes (s .size) ≤ memory)
-part-within flash memory s e =
-    let t = sizes flash memory s e in
+-- and in bytes: the window's part lies in the flash, its blocks in the window memory, and its part of the map in the map
+pub part-within : (flash worn memory : ℕ) (s : Session) → sound flash worn memory s ≡ true
+    → (toBytes (s .first) + toBytes (s .size) ≤ flash) × (toBytes (s .size) ≤ memory) × (s .first + s .size ≤ worn)
+part-within flash worn memory s e =
+    let t = sizes flash worn memory s e in
     let f = sized 65535 flash (t .0) in
     let m = sized 64 memory (t .1) in
     let w = fitting (roundUp flash) (roundUp memory) s (t .2) in
-    (omega (arith, f .whole, w .in-flash), omega (arith, m .whole, w .in-memory))
+    (omega (arith, f .whole, w .in-flash), omega (arith, m .whole, w .in-memory), omega (arith, w .in-flash, t .3))
 
 -- what the first check of a command tells
-pub record Measured (flash memory : ℕ) (s : Session) : Type 0 where
-  pub sound : sound flash memory s ≡ true
+pub record Measured (flash worn memory : ℕ) (s : Session) : Type 0 where
+  pub sound : sound flash worn memory s ≡ true
   pub flash-sized : Sized 65535 flash
   pub memory-sized : Sized 64 memory
+  pub map-sized : worn ≡ roundUp flash
   pub fits : Fitting (roundUp flash) (roundUp memory) s
 
-pub measured : (setup : Setup) (flash memory : ℕ) (s : Session) → soundAt setup flash memory s ≡ true → Measured flash memory s
+pub measured : (setup : Setup) (flash worn memory : ℕ) (s : Session) → soundAt setup flash worn memory s ≡ true → Measured flash worn memory s
 unfolding soundAt
-measured setup flash memory s e =
-    let t = both (sound flash memory s) _ e .0 in
-    let z = sizes flash memory s t in
+measured setup flash worn memory s e =
+    let t = both (sound flash worn memory s) _ e .0 in
+    let z = sizes flash worn memory s t in
     record {
       sound = t;
       flash-sized = sized 65535 flash (z .0);
       memory-sized = sized 64 memory (z .1);
+      map-sized = z .3;
       fits = fitting (roundUp flash) (roundUp memory) s (z .2);
     }

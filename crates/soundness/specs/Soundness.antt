@@ -1,4 +1,4 @@
--- Soundness: document 01, "Numbers" and the second paragraph of "Session", and 02, Tickets 1 and 2.
+-- Soundness: document 01, "Numbers" and the second paragraph of "Session", and 02, Tickets 1, 2 and 8.
 use Prim.Native.Nat.{ℕ, zero, suc, _+_}
 use mathlib.Core.Bool.{Bool, true, false, not, _&&_}
 use mathlib.Core.List.{List, [], _∷_}
@@ -16,9 +16,13 @@ use Rattle.session.specs.declared.Window.the-variants.{Closed, Read, Write}
 unfoldable pub sizeSound : ℕ → ℕ → Bool
 sizeSound most length = leb 1 (roundUp length) && (leb (roundUp length) most && eqb (toBytes (roundUp length)) length)
 
--- "S, the flash size, is 1 to 65,535 blocks. C, the window memory, is 1 to 64 blocks"; both lengths in bytes
-unfoldable pub sizesSound : ℕ → ℕ → Bool
-sizesSound flash memory = sizeSound 65535 flash && sizeSound 64 memory
+-- "a map of worn blocks, one byte a block": its length is S (02, Ticket 8)
+abbrev pub mapSound : ℕ → ℕ → Bool
+mapSound flash worn = eqb worn (roundUp flash)
+
+-- "S, the flash size, is 1 to 65,535 blocks. C, the window memory, is 1 to 64 blocks", and the map's; all lengths in bytes
+unfoldable pub sizesSound : ℕ → ℕ → ℕ → Bool
+sizesSound flash worn memory = sizeSound 65535 flash && (sizeSound 64 memory && mapSound flash worn)
 
 -- "the version is 0 to 2"
 abbrev pub versionSound : Session → Bool
@@ -64,13 +68,13 @@ sessionSound S C s =
     && (marksSound (markable (s .window) (s .size)) (s .marks) && countsSound s)))
 
 -- the lent sizes, in bytes, and the session keep the numbers
-unfoldable pub sound : ℕ → ℕ → Session → Bool
-sound flash memory s = sizesSound flash memory && sessionSound (roundUp flash) (roundUp memory) s
+unfoldable pub sound : ℕ → ℕ → ℕ → Session → Bool
+sound flash worn memory s = sizesSound flash worn memory && sessionSound (roundUp flash) (roundUp memory) s
 
 -- "B, the window's first LPC block, satisfies B + C <= 65,536"
-unfoldable pub soundAt : Setup → ℕ → ℕ → Session → Bool
-soundAt setup flash memory s = sound flash memory s && leb (setup .lpc + roundUp memory) 65536
+unfoldable pub soundAt : Setup → ℕ → ℕ → ℕ → Session → Bool
+soundAt setup flash worn memory s = sound flash worn memory s && leb (setup .lpc + roundUp memory) 65536
 
 -- the same, of what a call is given
 abbrev pub soundIn : Setup → Machine → Bool
-soundIn setup m = soundAt setup (length (m .flash)) (length (m .memory)) (m .session)
+soundIn setup m = soundAt setup (length (m .flash)) (length (m .worn)) (length (m .memory)) (m .session)

@@ -28,9 +28,9 @@ const MOST_MEMORY: u32 = 64;
 
 const LPC_BLOCKS: u64 = 65536;
 
-// The lent sizes, in bytes, and the session are sound.
-pub fn is_sound(session: Session, flash: usize, memory: usize) -> bool
-    ensures { λ r. ⌜ r ≡ sound flash memory session ⌝ }
+// The lent sizes, in bytes, and the session are sound; the map of worn blocks has a byte for each block of the flash.
+pub fn is_sound(session: Session, flash: usize, worn: usize, memory: usize) -> bool
+    ensures { λ r. ⌜ r ≡ sound flash worn memory session ⌝ }
 {
     if !size_is_sound(MOST_FLASH, flash) {
         return false;
@@ -39,15 +39,18 @@ pub fn is_sound(session: Session, flash: usize, memory: usize) -> bool
         return false;
     }
     let flash_blocks = Bytes(flash as u64).blocks().0;
+    if worn != flash_blocks as usize {
+        return false;
+    }
     let memory_blocks = Bytes(memory as u64).blocks().0;
     session_is_sound(session, flash_blocks, memory_blocks)
 }
 
 // The same, with B: the window memory ends within the LPC blocks.
-pub fn is_sound_at(session: Session, board: Board, flash: usize, memory: usize) -> bool
-    ensures { λ r. ⌜ r ≡ soundAt (setUp board) flash memory session ⌝ }
+pub fn is_sound_at(session: Session, board: Board, flash: usize, worn: usize, memory: usize) -> bool
+    ensures { λ r. ⌜ r ≡ soundAt (setUp board) flash worn memory session ⌝ }
 {
-    if !is_sound(session, flash, memory) {
+    if !is_sound(session, flash, worn, memory) {
         return false;
     }
     let memory_blocks = Bytes(memory as u64).blocks().0;

@@ -21,8 +21,8 @@ answer-requires c κs = search needs
 returns : tie.Need-returns
 returns c =
     let checked = c .before in
-    let a = checked .before .before .before .before .args in
-    let m = lent (a .session) (a .flash .now) (a .memory .now) in
+    let a = checked .before .before .before .before .before .args in
+    let m = lent (a .session) (a .flash .now) (a .worn .now) (a .memory .now) in
     ap (λ (r : Answer). leaving r m) (c .answer .ensures)
     ∙ sym (unsound-as (setUp (a .board)) (a .t2) m (sym (checked .before .is-sound-at .ensures) ∙ not-true _ (checked .if1 .taken)))
 
@@ -38,8 +38,8 @@ reset-requires c κs = search needs
 get-info-requires : tie.Need-get-info-requires
 get-info-requires c κs =
     let checked = c .before .before in
-    let a = checked .before .before .before .before .args in
-    let m = lent (a .session) (a .flash .now) (a .memory .now) in
+    let a = checked .before .before .before .before .before .args in
+    let m = lent (a .session) (a .flash .now) (a .worn .now) (a .memory .now) in
     let sound = sym (checked .before .is-sound-at .ensures) ∙ not-false _ (checked .if1 .left) in
     let f = call-fits (setUp (a .board)) m sound in
     f .memory-sound
@@ -47,8 +47,8 @@ get-info-requires c κs =
 get-flash-info-requires : tie.Need-get-flash-info-requires
 get-flash-info-requires c κs =
     let checked = c .before .before in
-    let a = checked .before .before .before .before .args in
-    let m = lent (a .session) (a .flash .now) (a .memory .now) in
+    let a = checked .before .before .before .before .before .args in
+    let m = lent (a .session) (a .flash .now) (a .worn .now) (a .memory .now) in
     let sound = sym (checked .before .is-sound-at .ensures) ∙ not-false _ (checked .if1 .left) in
     let f = call-fits (setUp (a .board)) m sound in
     f .flash-sound
@@ -56,8 +56,8 @@ get-flash-info-requires c κs =
 create-read-window-requires : tie.Need-create-read-window-requires
 create-read-window-requires c κs =
     let checked = c .before .before .before in
-    let a = checked .before .before .before .before .args in
-    let m = lent (a .session) (a .flash .now) (a .memory .now) in
+    let a = checked .before .before .before .before .before .args in
+    let m = lent (a .session) (a .flash .now) (a .worn .now) (a .memory .now) in
     let sound = sym (checked .before .is-sound-at .ensures) ∙ not-false _ (checked .if1 .left) in
     let f = call-fits (setUp (a .board)) m sound in
     (f .flash-sound, f .memory-sound)
@@ -68,8 +68,8 @@ close-window-requires c κs = search needs
 create-write-window-requires : tie.Need-create-write-window-requires
 create-write-window-requires c κs =
     let checked = c .before .before .before in
-    let a = checked .before .before .before .before .args in
-    let m = lent (a .session) (a .flash .now) (a .memory .now) in
+    let a = checked .before .before .before .before .before .args in
+    let m = lent (a .session) (a .flash .now) (a .worn .now) (a .memory .now) in
     let sound = sym (checked .before .is-sound-at .ensures) ∙ not-false _ (checked .if1 .left) in
     let f = call-fits (setUp (a .board)) m sound in
     (f .flash-sound, f .memory-sound)
@@ -77,8 +77,8 @@ create-write-window-requires c κs =
 mark-dirty-requires : tie.Need-mark-dirty-requires
 mark-dirty-requires c κs =
     let checked = c .before in
-    let a = checked .before .before .before .before .args in
-    let m = lent (a .session) (a .flash .now) (a .memory .now) in
+    let a = checked .before .before .before .before .before .args in
+    let m = lent (a .session) (a .flash .now) (a .worn .now) (a .memory .now) in
     let sound = sym (checked .before .is-sound-at .ensures) ∙ not-false _ (checked .if1 .left) in
     let f = call-fits (setUp (a .board)) m sound in
     (f .few, f .counts)
@@ -86,8 +86,8 @@ mark-dirty-requires c κs =
 flush-requires : tie.Need-flush-requires
 flush-requires c κs =
     let checked = c .before .before .before in
-    let a = checked .before .before .before .before .args in
-    let m = lent (a .session) (a .flash .now) (a .memory .now) in
+    let a = checked .before .before .before .before .before .args in
+    let m = lent (a .session) (a .flash .now) (a .worn .now) (a .memory .now) in
     let sound = sym (checked .before .is-sound-at .ensures) ∙ not-false _ (checked .if1 .left) in
     let f = call-fits (setUp (a .board)) m sound in
     (f .few, f .counts)
@@ -98,8 +98,8 @@ acknowledge-requires c κs = search needs
 erase-requires : tie.Need-erase-requires
 erase-requires c κs =
     let checked = c .before .before in
-    let a = checked .before .before .before .before .args in
-    let m = lent (a .session) (a .flash .now) (a .memory .now) in
+    let a = checked .before .before .before .before .before .args in
+    let m = lent (a .session) (a .flash .now) (a .worn .now) (a .memory .now) in
     let sound = sym (checked .before .is-sound-at .ensures) ∙ not-false _ (checked .if1 .left) in
     let f = call-fits (setUp (a .board)) m sound in
     ((f .few, f .room), f .counts)
@@ -111,20 +111,20 @@ returns-2 : tie.Need-returns-2
 unfolding commandAt
 returns-2 c =
     let checked = c .before .before in
-    let a = checked .before .before .before .before .args in
-    let m = lent (a .session) (a .flash .now) (a .memory .now) in
+    let a = checked .before .before .before .before .before .args in
+    let m = lent (a .session) (a .flash .now) (a .worn .now) (a .memory .now) in
     let sound = sym (checked .before .is-sound-at .ensures) ∙ not-false _ (checked .if1 .left) in
-    c .unknown .ensures (a .flash .now) (a .memory .now)
+    c .unknown .ensures (a .flash .now) (a .worn .now) (a .memory .now)
     ∙ row-at 0 (setUp (a .board)) (a .t2) m (c .before .match .keys1) sound
 
 returns-3 : tie.Need-returns-3
 unfolding commandAt
 returns-3 c =
     let checked = c .before .before in
-    let a = checked .before .before .before .before .args in
-    let m = lent (a .session) (a .flash .now) (a .memory .now) in
+    let a = checked .before .before .before .before .before .args in
+    let m = lent (a .session) (a .flash .now) (a .worn .now) (a .memory .now) in
     let sound = sym (checked .before .is-sound-at .ensures) ∙ not-false _ (checked .if1 .left) in
-    c .reset .ensures (a .flash .now) (a .memory .now)
+    c .reset .ensures (a .flash .now) (a .worn .now) (a .memory .now)
     ∙ row-at (reset .code) (setUp (a .board)) (a .t2) m (c .before .match .keys2) sound
 
 same-length : tie.Need-same-length
@@ -134,10 +134,10 @@ returns-4 : tie.Need-returns-4
 unfolding commandAt
 returns-4 c =
     let checked = c .before .before .before in
-    let a = checked .before .before .before .before .args in
-    let m = lent (a .session) (a .flash .now) (a .memory .now) in
+    let a = checked .before .before .before .before .before .args in
+    let m = lent (a .session) (a .flash .now) (a .worn .now) (a .memory .now) in
     let sound = sym (checked .before .is-sound-at .ensures) ∙ not-false _ (checked .if1 .left) in
-    c .get-info .ensures (a .flash .now)
+    c .get-info .ensures (a .flash .now) (a .worn .now)
     ∙ row-at (getInfo .code) (setUp (a .board)) (a .t2) m (c .before .before .match .keys3) sound
 
 same-length-2 : tie.Need-same-length-2
@@ -147,10 +147,10 @@ returns-5 : tie.Need-returns-5
 unfolding commandAt
 returns-5 c =
     let checked = c .before .before .before in
-    let a = checked .before .before .before .before .args in
-    let m = lent (a .session) (a .flash .now) (a .memory .now) in
+    let a = checked .before .before .before .before .before .args in
+    let m = lent (a .session) (a .flash .now) (a .worn .now) (a .memory .now) in
     let sound = sym (checked .before .is-sound-at .ensures) ∙ not-false _ (checked .if1 .left) in
-    c .get-flash-info .ensures (a .memory .now) refl
+    c .get-flash-info .ensures (a .worn .now) (a .memory .now) refl
     ∙ row-at (getFlashInfo .code) (setUp (a .board)) (a .t2) m (c .before .before .match .keys4) sound
 
 same-length-3 : tie.Need-same-length-3
@@ -163,8 +163,8 @@ returns-6 : tie.Need-returns-6
 unfolding commandAt
 returns-6 c =
     let checked = c .before .before .before .before .before .before .before .before in
-    let a = checked .before .before .before .before .args in
-    let m = lent (a .session) (a .flash .now) (a .memory .now) in
+    let a = checked .before .before .before .before .before .args in
+    let m = lent (a .session) (a .flash .now) (a .worn .now) (a .memory .now) in
     let sound = sym (checked .before .is-sound-at .ensures) ∙ not-false _ (checked .if1 .left) in
     c .before .before .before .before .create-read-window .ensures refl
     ∙ row-at (createReadWindow .code) (setUp (a .board)) (a .t2) m (c .before .before .before .before .before .before .before .match .keys5) sound
@@ -179,8 +179,8 @@ returns-7 : tie.Need-returns-7
 unfolding commandAt
 returns-7 c =
     let checked = c .before .before .before .before .before .before in
-    let a = checked .before .before .before .before .args in
-    let m = lent (a .session) (a .flash .now) (a .memory .now) in
+    let a = checked .before .before .before .before .before .args in
+    let m = lent (a .session) (a .flash .now) (a .worn .now) (a .memory .now) in
     let sound = sym (checked .before .is-sound-at .ensures) ∙ not-false _ (checked .if1 .left) in
     c .before .before .close-window .ensures refl
     ∙ row-at (closeWindow .code) (setUp (a .board)) (a .t2) m (c .before .before .before .before .before .match .keys6) sound
@@ -195,8 +195,8 @@ returns-8 : tie.Need-returns-8
 unfolding commandAt
 returns-8 c =
     let checked = c .before .before .before .before .before .before .before .before in
-    let a = checked .before .before .before .before .args in
-    let m = lent (a .session) (a .flash .now) (a .memory .now) in
+    let a = checked .before .before .before .before .before .args in
+    let m = lent (a .session) (a .flash .now) (a .worn .now) (a .memory .now) in
     let sound = sym (checked .before .is-sound-at .ensures) ∙ not-false _ (checked .if1 .left) in
     c .before .before .before .before .create-write-window .ensures refl
     ∙ row-at (createWriteWindow .code) (setUp (a .board)) (a .t2) m (c .before .before .before .before .before .before .before .match .keys7) sound
@@ -205,10 +205,10 @@ returns-9 : tie.Need-returns-9
 unfolding commandAt
 returns-9 c =
     let checked = c .before .before in
-    let a = checked .before .before .before .before .args in
-    let m = lent (a .session) (a .flash .now) (a .memory .now) in
+    let a = checked .before .before .before .before .before .args in
+    let m = lent (a .session) (a .flash .now) (a .worn .now) (a .memory .now) in
     let sound = sym (checked .before .is-sound-at .ensures) ∙ not-false _ (checked .if1 .left) in
-    c .mark-dirty .ensures (a .flash .now) (a .memory .now) refl
+    c .mark-dirty .ensures (a .flash .now) (a .worn .now) (a .memory .now) refl
     ∙ row-at (markDirty .code) (setUp (a .board)) (a .t2) m (c .before .match .keys8) sound
 
 same-length-9 : tie.Need-same-length-9
@@ -221,8 +221,8 @@ returns-10 : tie.Need-returns-10
 unfolding commandAt
 returns-10 c =
     let checked = c .before .before .before .before .before .before in
-    let a = checked .before .before .before .before .args in
-    let m = lent (a .session) (a .flash .now) (a .memory .now) in
+    let a = checked .before .before .before .before .before .args in
+    let m = lent (a .session) (a .flash .now) (a .worn .now) (a .memory .now) in
     let sound = sym (checked .before .is-sound-at .ensures) ∙ not-false _ (checked .if1 .left) in
     c .before .before .flush .ensures refl
     ∙ row-at (flush .code) (setUp (a .board)) (a .t2) m (c .before .before .before .before .before .match .keys9) sound
@@ -231,10 +231,10 @@ returns-11 : tie.Need-returns-11
 unfolding commandAt
 returns-11 c =
     let checked = c .before .before in
-    let a = checked .before .before .before .before .args in
-    let m = lent (a .session) (a .flash .now) (a .memory .now) in
+    let a = checked .before .before .before .before .before .args in
+    let m = lent (a .session) (a .flash .now) (a .worn .now) (a .memory .now) in
     let sound = sym (checked .before .is-sound-at .ensures) ∙ not-false _ (checked .if1 .left) in
-    c .acknowledge .ensures (a .flash .now) (a .memory .now)
+    c .acknowledge .ensures (a .flash .now) (a .worn .now) (a .memory .now)
     ∙ row-at (ack .code) (setUp (a .board)) (a .t2) m (c .before .match .keys10) sound
 
 same-length-11 : tie.Need-same-length-11
@@ -244,20 +244,20 @@ returns-12 : tie.Need-returns-12
 unfolding commandAt
 returns-12 c =
     let checked = c .before .before .before .before .before in
-    let a = checked .before .before .before .before .args in
-    let m = lent (a .session) (a .flash .now) (a .memory .now) in
+    let a = checked .before .before .before .before .before .args in
+    let m = lent (a .session) (a .flash .now) (a .worn .now) (a .memory .now) in
     let sound = sym (checked .before .is-sound-at .ensures) ∙ not-false _ (checked .if1 .left) in
-    c .before .before .erase .ensures (a .flash .now) refl
+    c .before .before .erase .ensures (a .flash .now) (a .worn .now) refl
     ∙ row-at (erase .code) (setUp (a .board)) (a .t2) m (c .before .before .before .before .match .keys11) sound
 
 returns-13 : tie.Need-returns-13
 returns-13 c =
     let checked = c .before .before in
-    let a = checked .before .before .before .before .args in
-    let m = lent (a .session) (a .flash .now) (a .memory .now) in
+    let a = checked .before .before .before .before .before .args in
+    let m = lent (a .session) (a .flash .now) (a .worn .now) (a .memory .now) in
     let sound = sym (checked .before .is-sound-at .ensures) ∙ not-false _ (checked .if1 .left) in
     let r = c .before .match .rest in
-    c .unknown2 .ensures (a .flash .now) (a .memory .now)
+    c .unknown2 .ensures (a .flash .now) (a .worn .now) (a .memory .now)
     ∙ unknown-at (setUp (a .board)) (a .t2) m (past-table (commandOf (a .t2)) (r .0 .0 .0 .0 .0 .0 .0 .0 .0 .1) (r .0 .0 .0 .0 .0 .0 .0 .0 .1) (r .0 .0 .0 .0 .0 .0 .0 .1) (r .0 .0 .0 .0 .0 .0 .1) (r .0 .0 .0 .0 .0 .1) (r .0 .0 .0 .0 .1) (r .0 .0 .0 .1) (r .0 .0 .1) (r .0 .1) (r .1)) sound
 
 pub command-spec : {M : Type 1} → statement M

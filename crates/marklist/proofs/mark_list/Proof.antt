@@ -36,7 +36,7 @@ mark-pairs-requires c κs =
     let asked = told .before .before in
     let a = asked .before .before .before .args in
     let e = asked .check .ensures ∙ ap (λ (b : Bool). answerFor b (a .list .now) (a .session)) (asked .before .is-sound-at .ensures) in
-    within-marks (setUp (a .board)) (a .flash) (a .memory) (a .list .now) (a .session) (sym e ∙ told .enum-told .given .1)
+    within-marks (setUp (a .board)) (a .flash) (a .worn) (a .memory) (a .list .now) (a .session) (sym e ∙ told .enum-told .given .1)
 
 with-marks-requires : tie.Need-with-marks-requires
 with-marks-requires c κs = search needs

@@ -34,8 +34,8 @@ returns-2 : tie.Need-returns-2
 unfolding soundAt
 returns-2 c =
     let a = c .before .before .before .before .args in
-    let s : sound (a .flash) (a .memory) (a .session) ≡ true = sym (c .before .before .before .is-sound .ensures) ∙ not-false (c .before .before .before .is-sound .result) (c .before .before .if1 .left) in
-    let memory = sizes (a .flash) (a .memory) (a .session) s .1 in
+    let s : sound (a .flash) (a .worn) (a .memory) (a .session) ≡ true = sym (c .before .before .before .is-sound .ensures) ∙ not-false (c .before .before .before .is-sound .result) (c .before .before .if1 .left) in
+    let memory = sizes (a .flash) (a .worn) (a .memory) (a .session) s .1 in
     rw s (ap (λ (n : ℕ). leb (a .board .lpc + n) 65536) (c .before .blocks2 .ensures ∙ counted 64 (a .memory) (omega arith) (sized 64 (a .memory) memory)))
 
 pub is-sound-at-spec : {M : Type 1} → statement M

@@ -1,7 +1,7 @@
 -- `flush::window::flush_part` meets its contract.
 use native.Mathlib.Omega.{arith}
 use borrow.Author.Needs.{needs}
-use Rattle.flush.specs.Window.{windowActions}
+use Rattle.flush.specs.Actions.{flushActions}
 use Rattle.flush.proofs.InWindow.{performed}
 use Rattle.flush.proofs.window.flush_part.Statement.{statement}
 use Rattle.flush.proofs.window.flush_part.Tie as tie
@@ -38,13 +38,13 @@ same-length c = search needs
 
 returns : tie.Need-returns
 returns c =
-    let a = c .before .before .before .before .before .before .before .before .before .before .before .args in
-    let start = c .before .before .before .before .before .before .before .bytes in
-    let size = c .before .before .before .before .before .bytes2 in
+    let a = c .before .before .before .before .before .before .before .before .before .before .args in
+    let start = c .before .before .before .before .before .before .bytes in
+    let size = c .before .before .before .before .bytes2 in
     let call = c .before .before .flush-marked in (
       call .ensures .0,
       performed (a .session) (a .memory .now) (a .flash .now) (call .last .0) (start .result .0) (size .result .0) (start .ensures) (size .ensures) (omega arith) (call .kept .0)
-          (windowActions (a .session)) (call .ensures .1),
+          (flushActions (a .marks)) (call .ensures .1),
     )
 
 pub flush-part-spec : {M : Type 1} → statement M

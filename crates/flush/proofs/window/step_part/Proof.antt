@@ -2,7 +2,7 @@
 use native.Mathlib.Omega.{arith}
 use borrow.Author.Needs.{needs}
 use lib.ListN.{take, drop}
-use Rattle.flush.specs.Window.{windowActions}
+use Rattle.flush.specs.Actions.{flushActions}
 use Rattle.flush.proofs.InWindow.{performed}
 use Rattle.flush.proofs.window.step_part.Statement.{statement}
 use Rattle.flush.proofs.window.step_part.Tie as tie
@@ -39,12 +39,12 @@ same-length c = search needs
 
 returns : tie.Need-returns
 returns c =
-    let a = c .before .before .before .before .before .before .before .before .before .before .before .args in
-    let start = c .before .before .before .before .before .before .before .bytes in
-    let size = c .before .before .before .before .before .bytes2 in
+    let a = c .before .before .before .before .before .before .before .before .before .before .args in
+    let start = c .before .before .before .before .before .before .bytes in
+    let size = c .before .before .before .before .bytes2 in
     let call = c .before .before .step-marked in
     let flash = performed (a .session) (a .memory .now) (a .flash .now) (call .last .0) (start .result .0) (size .result .0) (start .ensures) (size .ensures) (omega arith) (call .kept .0)
-    (take 1 (drop (a .done) (windowActions (a .session)))) (call .ensures .1) in
+    (take 1 (drop (a .done) (flushActions (a .marks)))) (call .ensures .1) in
     (call .ensures .0, flash)
 
 pub step-part-spec : {M : Type 1} → statement M

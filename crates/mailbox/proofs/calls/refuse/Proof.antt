@@ -22,15 +22,15 @@ answer-requires : tie.Need-answer-requires
 answer-requires c κs = search needs
 
 returns : tie.Need-returns
-returns c = λ command setup flash memory accepted system broken.
+returns c = λ command setup flash worn memory accepted system broken.
     let coded = c .before .before in
     let a = coded .before .before .args in
     let registers = a .call .registers in
-    ap (λ (r : Answer). outcome r flash memory)
+    ap (λ (r : Answer). outcome r flash worn memory)
     (c .answer .ensures
     ∙ ap (λ (s : Session). answerWith s registers (coded .code-for .result) (replicate 11 0) 0) (c .before .with-number .ensures)
     ∙ ap (λ (k : ℕ). answered (numbered (a .call .session) registers) registers k [] 0) (coded .code-for .ensures))
-    ∙ refused-as (a .reason) command setup registers (lent (a .call .session) flash memory) accepted system broken
+    ∙ refused-as (a .reason) command setup registers (lent (a .call .session) flash worn memory) accepted system broken
 
 pub refuse-spec : {M : Type 1} → statement M
 refuse-spec =

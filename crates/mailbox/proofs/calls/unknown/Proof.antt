@@ -18,11 +18,11 @@ refuse-requires : tie.Need-refuse-requires
 refuse-requires c κs = search needs
 
 returns : tie.Need-returns
-returns c = λ flash memory.
+returns c = λ flash worn memory.
     let call = c .before .before .before .before .args .call in
-    let m = lent (call .session) flash memory in
+    let m = lent (call .session) flash worn memory in
     let reason = c .before .reason-for in
-    c .refuse .ensures unknown (setUp (call .board)) flash memory
+    c .refuse .ensures unknown (setUp (call .board)) flash worn memory
     (λ a. false≢true (passed true (call .session) (call .registers) false Access false (sym (reason .ensures) ∙ a) .knows))
     (not-system unknown (call .registers) m (reason .result) (reason .ensures))
     (λ _. refl)

@@ -25,12 +25,12 @@ refuse-requires : tie.Need-refuse-requires
 refuse-requires c κs = search needs
 
 returns : tie.Need-returns
-returns c = λ memory k.
+returns c = λ worn memory k.
     let asked = c .before .before in
     let entered = asked .before .before .before .before in
     let call = entered .args .call in
-    let e = asked-as getFlashInfo (call .registers) (lent (call .session) (entered .args .flash .now) memory) (asked .reason-for .ensures) k refl in
-    refused-left getFlashInfo (setUp (call .board)) (call .registers) (call .session) (entered .args .flash .now) memory (asked .reason-for .result) (c .refuse .result) e (c .before .match .keys2) refl (c .refuse .ensures)
+    let e = asked-as getFlashInfo (call .registers) (lent (call .session) (entered .args .flash .now) worn memory) (asked .reason-for .ensures) k refl in
+    refused-left getFlashInfo (setUp (call .board)) (call .registers) (call .session) (entered .args .flash .now) worn memory (asked .reason-for .result) (c .refuse .result) e (c .before .match .keys2) refl (c .refuse .ensures)
 
 blocks-requires : tie.Need-blocks-requires
 blocks-requires c κs = search needs
@@ -42,19 +42,19 @@ tell-flash-requires : tie.Need-tell-flash-requires
 tell-flash-requires c κs = search needs
 
 returns-2 : tie.Need-returns-2
-returns-2 c = λ memory k.
+returns-2 c = λ worn memory k.
     let told = c .before .before .before in
     let asked = told .before .before in
     let entered = asked .before .before .before .before in
     let call = entered .args .call in
-    let e = asked-as getFlashInfo (call .registers) (lent (call .session) (entered .args .flash .now) memory) (asked .reason-for .ensures) k refl in
+    let e = asked-as getFlashInfo (call .registers) (lent (call .session) (entered .args .flash .now) worn memory) (asked .reason-for .ensures) k refl in
     let flash = entered .args .flash .now in
     let blocks = c .before .before .blocks2 .ensures ∙ counted 65535 (length flash) (lit≤ tt) (sized 65535 (length flash) (entered .pre)) in
-    ap (λ (r : Answer). outcome r flash memory)
+    ap (λ (r : Answer). outcome r flash worn memory)
     (c .tell-flash .ensures
     ∙ ap (λ (s : Session). flashInfoAnswer s (call .registers) (c .before .before .blocks2 .result .0)) (c .before .with-number .ensures)
     ∙ ap (λ (n : ℕ). flashInfoAnswer (numbered (call .session) (call .registers)) (call .registers) n) blocks)
-    ∙ accepted-by getFlashInfo (setUp (call .board)) (call .registers) (lent (call .session) flash memory) (asked .reason-for .result) e (told .enum-told .given .1)
+    ∙ accepted-by getFlashInfo (setUp (call .board)) (call .registers) (lent (call .session) flash worn memory) (asked .reason-for .result) e (told .enum-told .given .1)
 
 pub get-flash-info-spec : {M : Type 1} → statement M
 get-flash-info-spec =

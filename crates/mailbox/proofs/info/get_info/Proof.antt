@@ -28,11 +28,11 @@ refuse-requires : tie.Need-refuse-requires
 refuse-requires c κs = search needs
 
 returns : tie.Need-returns
-returns c = λ flash.
+returns c = λ flash worn.
     let asked = c .before .before in
     let entered = asked .before .before .before .before in
     let call = entered .args .call in
-    refused-left getInfo (setUp (call .board)) (call .registers) (call .session) flash (entered .args .memory .now) (asked .reason-for .result) (c .refuse .result) (asked .reason-for .ensures) (c .before .match .keys2) refl (c .refuse .ensures)
+    refused-left getInfo (setUp (call .board)) (call .registers) (call .session) flash worn (entered .args .memory .now) (asked .reason-for .result) (c .refuse .result) (asked .reason-for .ensures) (c .before .match .keys2) refl (c .refuse .ensures)
 
 blocks-requires : tie.Need-blocks-requires
 blocks-requires c κs = search needs
@@ -44,7 +44,7 @@ agree-requires : tie.Need-agree-requires
 agree-requires c κs = search needs
 
 returns-2 : tie.Need-returns-2
-returns-2 c = λ flash.
+returns-2 c = λ flash worn.
     let told = c .before .before .before in
     let asked = told .before .before in
     let entered = asked .before .before .before .before in
@@ -52,11 +52,11 @@ returns-2 c = λ flash.
     let setup = setUp (call .board) in
     let memory = entered .args .memory .now in
     let blocks = c .before .before .blocks2 .ensures ∙ counted 64 (length memory) (lit≤ tt) (sized 64 (length memory) (entered .pre)) in
-    ap (λ (r : Answer). outcome r flash memory)
+    ap (λ (r : Answer). outcome r flash worn memory)
     (c .agree .ensures
     ∙ ap (λ (s : Session). infoAnswer setup s (call .registers) (c .before .before .blocks2 .result .0)) (c .before .with-number .ensures)
     ∙ ap (λ (n : ℕ). infoAnswer setup (numbered (call .session) (call .registers)) (call .registers) n) blocks)
-    ∙ accepted-by getInfo (setUp (call .board)) (call .registers) (lent (call .session) flash memory) (asked .reason-for .result) (asked .reason-for .ensures) (told .enum-told .given .1)
+    ∙ accepted-by getInfo (setUp (call .board)) (call .registers) (lent (call .session) flash worn memory) (asked .reason-for .result) (asked .reason-for .ensures) (told .enum-told .given .1)
 
 pub get-info-spec : {M : Type 1} → statement M
 get-info-spec =

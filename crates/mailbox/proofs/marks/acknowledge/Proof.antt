@@ -26,11 +26,11 @@ refuse-requires : tie.Need-refuse-requires
 refuse-requires c κs = search needs
 
 returns : tie.Need-returns
-returns c = λ flash memory.
+returns c = λ flash worn memory.
     let asked = c .before .before in
     let entered = asked .before .before .before in
     let call = entered .args .call in
-    refused-left ack (setUp (call .board)) (call .registers) (call .session) flash memory (asked .reason-for .result) (c .refuse .result) (asked .reason-for .ensures) (c .before .match .keys2) refl (c .refuse .ensures)
+    refused-left ack (setUp (call .board)) (call .registers) (call .session) flash worn memory (asked .reason-for .result) (c .refuse .result) (asked .reason-for .ensures) (c .before .match .keys2) refl (c .refuse .ensures)
 
 with-number-requires : tie.Need-with-number-requires
 with-number-requires c κs = search needs
@@ -48,20 +48,20 @@ answer-requires : tie.Need-answer-requires
 answer-requires c κs = search needs
 
 returns-2 : tie.Need-returns-2
-returns-2 c = λ flash memory.
+returns-2 c = λ flash worn memory.
     let acknowledged-to = c .before .before in
     let next = acknowledged-to .before in
     let told = next .before in
     let asked = told .before .before in
     let entered = asked .before .before .before in
     let call = entered .args .call in
-    ap (λ (r : Answer). outcome r flash memory)
+    ap (λ (r : Answer). outcome r flash worn memory)
     (c .answer .ensures
     ∙ ap (λ (s : Session). answered s (call .registers) 1 [] 0)
     (c .before .with-access .ensures
     ∙ ap (λ (events : ℕ). withEvents events (next .with-number .result)) (acknowledged-to .acknowledge-events .ensures)
     ∙ ap (λ (s : Session). withEvents (acknowledged (argument 0 (call .registers)) (s .events)) s) (next .with-number .ensures)))
-    ∙ accepted-by ack (setUp (call .board)) (call .registers) (lent (call .session) flash memory) (asked .reason-for .result) (asked .reason-for .ensures) (told .enum-told .given .1)
+    ∙ accepted-by ack (setUp (call .board)) (call .registers) (lent (call .session) flash worn memory) (asked .reason-for .result) (asked .reason-for .ensures) (told .enum-told .given .1)
 
 pub acknowledge-spec : {M : Type 1} → statement M
 acknowledge-spec =

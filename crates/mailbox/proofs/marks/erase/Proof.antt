@@ -31,12 +31,12 @@ refuse-requires : tie.Need-refuse-requires
 refuse-requires c κs = search needs
 
 returns : tie.Need-returns
-returns c = λ flash k.
+returns c = λ flash worn k.
     let asked = c .before .before in
     let entered = asked .before .before .before .before .before .before in
     let call = entered .args .call in
-    let e = asked-as erase (call .registers) (lent (call .session) flash (entered .args .memory .now)) (asked .reason-for .ensures) k (ap (λ (b : BlockRange). not (b .inside)) (asked .before .before .blocks-named .ensures)) in
-    refused-left erase (setUp (call .board)) (call .registers) (call .session) flash (entered .args .memory .now) (asked .reason-for .result) (c .refuse .result) e (c .before .match .keys2) refl (c .refuse .ensures)
+    let e = asked-as erase (call .registers) (lent (call .session) flash worn (entered .args .memory .now)) (asked .reason-for .ensures) k (ap (λ (b : BlockRange). not (b .inside)) (asked .before .before .blocks-named .ensures)) in
+    refused-left erase (setUp (call .board)) (call .registers) (call .session) flash worn (entered .args .memory .now) (asked .reason-for .result) (c .refuse .result) e (c .before .match .keys2) refl (c .refuse .ensures)
 
 with-number-requires : tie.Need-with-number-requires
 with-number-requires c κs = search needs
@@ -62,15 +62,15 @@ same-length : tie.Need-same-length
 same-length c = search needs
 
 returns-2 : tie.Need-returns-2
-returns-2 c = λ flash k.
+returns-2 c = λ flash worn k.
     let told = c .before .before .before .before .before in
     let asked = told .before .before in
     let entered = asked .before .before .before .before .before .before in
     let call = entered .args .call in
-    let e = asked-as erase (call .registers) (lent (call .session) flash (entered .args .memory .now)) (asked .reason-for .ensures) k (ap (λ (b : BlockRange). not (b .inside)) (asked .before .before .blocks-named .ensures)) in
-    c .before .before .erase-named .ensures flash
-    ∙ ap (λ (s : Session). erasedOutcome (call .registers) (lent s flash (entered .args .memory .now))) (c .before .before .before .before .with-number .ensures)
-    ∙ accepted-by erase (setUp (call .board)) (call .registers) (lent (call .session) flash (entered .args .memory .now)) (asked .reason-for .result) e (told .enum-told .given .1)
+    let e = asked-as erase (call .registers) (lent (call .session) flash worn (entered .args .memory .now)) (asked .reason-for .ensures) k (ap (λ (b : BlockRange). not (b .inside)) (asked .before .before .blocks-named .ensures)) in
+    c .before .before .erase-named .ensures flash worn
+    ∙ ap (λ (s : Session). erasedOutcome (call .registers) (lent s flash worn (entered .args .memory .now))) (c .before .before .before .before .with-number .ensures)
+    ∙ accepted-by erase (setUp (call .board)) (call .registers) (lent (call .session) flash worn (entered .args .memory .now)) (asked .reason-for .result) e (told .enum-told .given .1)
 
 pub erase-spec : {M : Type 1} → statement M
 erase-spec =

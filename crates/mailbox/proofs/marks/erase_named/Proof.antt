@@ -66,7 +66,7 @@ returns c =
     let memory = erased-part from (from + size) size (a .memory .now) (s .fill .last .0) refl (omega (arith, b .before .before .pre .1)) (s .fill .ensures)
     ∙ ap (λ (t : ℕ). erased t size (a .memory .now)) start
     ∙ ap (λ (t : ℕ). erased (toBytes (blocksNamed (a .session) (a .registers) .start)) t (a .memory .now)) count in
-    λ flash i. outcome (r i) flash (memory i)
+    λ flash worn i. outcome (r i) flash worn (memory i)
 
 pub erase-named-spec : {M : Type 1} → statement M
 erase-named-spec =

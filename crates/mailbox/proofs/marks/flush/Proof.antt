@@ -32,9 +32,9 @@ returns : tie.Need-returns
 returns c = λ k.
     let asked = c .before .before in
     let entered = asked .before .before .before .before .before .before in
-    let call = entered .args .call in
-    let e = asked-as flush (call .registers) (lent (call .session) (entered .args .flash .now) (entered .args .memory .now)) (asked .reason-for .ensures) k (asked .before .flush-outside .ensures) in
-    refused-left flush (setUp (call .board)) (call .registers) (call .session) (entered .args .flash .now) (entered .args .memory .now) (asked .reason-for .result) (c .refuse .result) e (c .before .match .keys2) refl (c .refuse .ensures)
+    let call = entered .before .args .call in
+    let e = asked-as flush (call .registers) (lent (call .session) (entered .before .args .flash .now) (entered .before .args .worn .now) (entered .before .args .memory .now)) (asked .reason-for .ensures) k (asked .before .flush-outside .ensures) in
+    refused-left flush (setUp (call .board)) (call .registers) (call .session) (entered .before .args .flash .now) (entered .before .args .worn .now) (entered .before .args .memory .now) (asked .reason-for .result) (c .refuse .result) e (c .before .match .keys2) refl (c .refuse .ensures)
 
 with-number-requires : tie.Need-with-number-requires
 with-number-requires c κs = search needs
@@ -44,16 +44,16 @@ flush-named-requires c κs =
     let told = c .before .before in
     let asked = told .before .before in
     let entered = asked .before .before .before .before .before .before in
-    let call = entered .args .call in
-    let e = asked .reason-for .ensures ∙ ap (reasonFor true (call .session) (call .registers) (entered .args .known) WriteWindow) (asked .before .flush-outside .ensures) in
+    let call = entered .before .args .call in
+    let e = asked .reason-for .ensures ∙ ap (reasonFor true (call .session) (call .registers) (entered .before .args .known) WriteWindow) (asked .before .flush-outside .ensures) in
     let s = call .session in
     let registers = call .registers in
     let next = c .before .with-number in
-    let p = passed true s registers (entered .args .known) WriteWindow (flushMarks s registers && not (blocksNamed s registers .inside)) (sym e ∙ told .enum-told .given .1) in (
+    let p = passed true s registers (entered .before .args .known) WriteWindow (flushMarks s registers && not (blocksNamed s registers .inside)) (sym e ∙ told .enum-told .given .1) in (
       λ marks.
           let adds : flushMarks s registers ≡ true = sym (ap (λ (t : Session). flushMarks t registers) (next .ensures)) ∙ marks in
-          named-fit s (next .result) registers 64 (next .ensures) (not-false (blocksNamed s registers .inside) (rw adds at (p .argued))) (entered .pre .0),
-      named-counts s (next .result) registers (next .ensures) (entered .pre .1),
+          named-fit s (next .result) registers 64 (next .ensures) (not-false (blocksNamed s registers .inside) (rw adds at (p .argued))) (entered .before .pre .0),
+      named-counts s (next .result) registers (next .ensures) (entered .before .pre .1),
     )
 
 same-length : tie.Need-same-length
@@ -64,11 +64,11 @@ returns-2 c = λ k.
     let told = c .before .before .before .before .before in
     let asked = told .before .before in
     let entered = asked .before .before .before .before .before .before in
-    let call = entered .args .call in
-    let e = asked-as flush (call .registers) (lent (call .session) (entered .args .flash .now) (entered .args .memory .now)) (asked .reason-for .ensures) k (asked .before .flush-outside .ensures) in
+    let call = entered .before .args .call in
+    let e = asked-as flush (call .registers) (lent (call .session) (entered .before .args .flash .now) (entered .before .args .worn .now) (entered .before .args .memory .now)) (asked .reason-for .ensures) k (asked .before .flush-outside .ensures) in
     c .before .before .flush-named .ensures
-    ∙ ap (λ (s : Session). flushed (call .registers) (lent s (entered .args .flash .now) (entered .args .memory .now))) (c .before .before .before .before .with-number .ensures)
-    ∙ accepted-by flush (setUp (call .board)) (call .registers) (lent (call .session) (entered .args .flash .now) (entered .args .memory .now)) (asked .reason-for .result) e (told .enum-told .given .1)
+    ∙ ap (λ (s : Session). flushed (call .registers) (lent s (entered .before .args .flash .now) (entered .before .args .worn .now) (entered .before .args .memory .now))) (c .before .before .before .before .with-number .ensures)
+    ∙ accepted-by flush (setUp (call .board)) (call .registers) (lent (call .session) (entered .before .args .flash .now) (entered .before .args .worn .now) (entered .before .args .memory .now)) (asked .reason-for .result) e (told .enum-told .given .1)
 
 pub flush-spec : {M : Type 1} → statement M
 flush-spec =

@@ -10,7 +10,7 @@ flush-marks-requires c κs = search needs
 mark-named-requires : tie.Need-mark-named-requires
 mark-named-requires c κs =
     let m = c .before .flush-marks in
-    let p = c .before .before .before .before .pre in
+    let p = c .before .before .before .before .before .pre in
     (p .0 (sym (m .ensures) ∙ c .if1 .taken), p .1)
 
 flush-all-requires : tie.Need-flush-all-requires

@@ -9,7 +9,7 @@ use Rattle.buffers.specs.Ranges.{replace}
 use Rattle.session.specs.declared.Counts.{Counts}
 use Rattle.session.specs.Marks.{countsOf}
 use Rattle.soundness.proofs.Counting.{marks-most, marks-some}
-use Rattle.mailbox.proofs.Marking.{replaced-none, replaced-more}
+use Rattle.buffers.proofs.Stores.{replaced-none, replaced-more}
 use Rattle.mailbox.proofs.marks.mark_blocks.Statement.{statement}
 use Rattle.mailbox.proofs.marks.mark_blocks.Tie as tie
 

@@ -33,12 +33,12 @@ refuse-requires : tie.Need-refuse-requires
 refuse-requires c κs = search needs
 
 returns : tie.Need-returns
-returns c = λ flash memory k.
+returns c = λ flash worn memory k.
     let asked = c .before .before in
     let entered = asked .before .before .before .before .before in
     let call = entered .args .call in
-    let e = asked-as markDirty (call .registers) (lent (call .session) flash memory) (asked .reason-for .ensures) k (ap (λ (b : BlockRange). not (b .inside)) (asked .before .before .blocks-named .ensures)) in
-    refused-left markDirty (setUp (call .board)) (call .registers) (call .session) flash memory (asked .reason-for .result) (c .refuse .result) e (c .before .match .keys2) refl (c .refuse .ensures)
+    let e = asked-as markDirty (call .registers) (lent (call .session) flash worn memory) (asked .reason-for .ensures) k (ap (λ (b : BlockRange). not (b .inside)) (asked .before .before .blocks-named .ensures)) in
+    refused-left markDirty (setUp (call .board)) (call .registers) (call .session) flash worn memory (asked .reason-for .result) (c .refuse .result) e (c .before .match .keys2) refl (c .refuse .ensures)
 
 with-number-requires : tie.Need-with-number-requires
 with-number-requires c κs = search needs
@@ -60,17 +60,17 @@ answer-requires : tie.Need-answer-requires
 answer-requires c κs = search needs
 
 returns-2 : tie.Need-returns-2
-returns-2 c = λ flash memory k.
+returns-2 c = λ flash worn memory k.
     let told = c .before .before .before in
     let asked = told .before .before in
     let entered = asked .before .before .before .before .before in
     let call = entered .args .call in
-    let e = asked-as markDirty (call .registers) (lent (call .session) flash memory) (asked .reason-for .ensures) k (ap (λ (b : BlockRange). not (b .inside)) (asked .before .before .blocks-named .ensures)) in
-    ap (λ (r : Answer). outcome r flash memory)
+    let e = asked-as markDirty (call .registers) (lent (call .session) flash worn memory) (asked .reason-for .ensures) k (ap (λ (b : BlockRange). not (b .inside)) (asked .before .before .blocks-named .ensures)) in
+    ap (λ (r : Answer). outcome r flash worn memory)
     (c .answer .ensures
     ∙ ap (λ (s : Session). answered s (call .registers) 1 [] 0)
     (c .before .mark-named .ensures ∙ ap (λ (s : Session). marked dirty s (call .registers)) (c .before .before .with-number .ensures)))
-    ∙ accepted-by markDirty (setUp (call .board)) (call .registers) (lent (call .session) flash memory) (asked .reason-for .result) e (told .enum-told .given .1)
+    ∙ accepted-by markDirty (setUp (call .board)) (call .registers) (lent (call .session) flash worn memory) (asked .reason-for .result) e (told .enum-told .given .1)
 
 pub mark-dirty-spec : {M : Type 1} → statement M
 mark-dirty-spec =

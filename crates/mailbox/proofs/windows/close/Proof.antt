@@ -1,36 +1,54 @@
 -- `mailbox::windows::close` meets its contract.
-use mathlib.Core.Path.{ap, _∙_}
-use Prim.Native.Nat.{_-_}
-use borrow.Author.Needs.{needs}
-use lib.ListN.{replicate}
-use Rattle.session.specs.declared.Session.{Session}
-use Rattle.mailbox.specs.Commands.{outcome, answerWith}
+use mathlib.Core.Path.{sym, ap, _∙_}
+use mathlib.Core.List.{[]}
+use Rattle.session.specs.Record.{withMarks, dropWindow}
 use Rattle.flush.specs.Window.{Flushed}
-use Rattle.session.specs.Record.{dropWindow}
+use Rattle.mailbox.specs.Commands.{outcome, answered}
+use borrow.Author.Needs.{needs}
 use Rattle.mailbox.proofs.windows.close.Statement.{statement}
 use Rattle.mailbox.proofs.windows.close.Tie as tie
 
 flush-window-requires : tie.Need-flush-window-requires
 flush-window-requires c κs = search needs
 
-without-window-requires : tie.Need-without-window-requires
-without-window-requires c κs = search needs
-
-answer-requires : tie.Need-answer-requires
-answer-requires c κs = search needs
+stopped-requires : tie.Need-stopped-requires
+stopped-requires c κs = search needs
 
 same-length : tie.Need-same-length
 same-length c = search needs
 
 returns : tie.Need-returns
 returns c =
-    let a = c .before .before .before .before .before .before .before .before .args in
+    let a = c .before .before .before .before .before .before .before .before .before .args in
     let call = c .before .before .before .before .flush-window in
-    let r = c .answer .ensures ∙ ap (λ (s : Session). answerWith s (a .registers) (a .code) (replicate 11 0) (call .result)) (c .before .without-window .ensures) in
-    (λ i. outcome (r i) (call .last .1 .0) (a .memory .now))
-    ∙ ap (λ (f : Flushed). outcome (answerWith (dropWindow (a .session)) (a .registers) (a .code) (replicate 11 0) (f .actions)) (f .flash) (a .memory .now)) (call .ensures)
+    let failed = sym (ap (λ (f : Flushed). f .failed) (call .ensures)) ∙ c .before .if1 .taken in
+    rw failed
+    ((λ i. outcome (c .stopped .ensures i) (call .last .1 .0) (a .worn .now) (a .memory .now))
+    ∙ ap (λ (f : Flushed). outcome (answered (withMarks (f .marks) (a .session)) (a .registers) 3 [] (f .actions)) (f .flash) (a .worn .now) (a .memory .now)) (call .ensures))
+
+dropped-requires : tie.Need-dropped-requires
+dropped-requires c κs = search needs
+
+same-length-2 : tie.Need-same-length-2
+same-length-2 c = search needs
+
+returns-2 : tie.Need-returns-2
+returns-2 c =
+    let a = c .before .before .before .before .before .before .before .before .before .args in
+    let call = c .before .before .before .before .flush-window in
+    let failed = sym (ap (λ (f : Flushed). f .failed) (call .ensures)) ∙ c .before .if1 .left in
+    rw failed
+    ((λ i. outcome (c .dropped .ensures i) (call .last .1 .0) (a .worn .now) (a .memory .now))
+    ∙ ap (λ (f : Flushed). outcome (answered (dropWindow (a .session)) (a .registers) 1 [] (f .actions)) (f .flash) (a .worn .now) (a .memory .now)) (call .ensures))
 
 pub close-spec : {M : Type 1} → statement M
 close-spec =
     tie.close
-    (tie.spec flush-window-requires without-window-requires answer-requires same-length returns)
+    (tie.spec
+    flush-window-requires
+    stopped-requires
+    same-length
+    returns
+    dropped-requires
+    same-length-2
+    returns-2)

@@ -28,9 +28,9 @@ returns : tie.Need-returns
 returns c = λ k.
     let asked = c .before .before in
     let entered = asked .before .before .before .before .before .before in
-    let call = entered .args .call in
-    let e = asked-as closeWindow (call .registers) (lent (call .session) (entered .args .flash .now) (entered .args .memory .now)) (asked .reason-for .ensures) k (asked .before .undefined-flags .ensures (roundUp (length (entered .args .flash .now)))) in
-    refused-left closeWindow (setUp (call .board)) (call .registers) (call .session) (entered .args .flash .now) (entered .args .memory .now) (asked .reason-for .result) (c .refuse .result) e (c .before .match .keys2) refl (c .refuse .ensures)
+    let call = entered .before .args .call in
+    let e = asked-as closeWindow (call .registers) (lent (call .session) (entered .before .args .flash .now) (entered .before .args .worn .now) (entered .before .args .memory .now)) (asked .reason-for .ensures) k (asked .before .undefined-flags .ensures (roundUp (length (entered .before .args .flash .now)))) in
+    refused-left closeWindow (setUp (call .board)) (call .registers) (call .session) (entered .before .args .flash .now) (entered .before .args .worn .now) (entered .before .args .memory .now) (asked .reason-for .result) (c .refuse .result) e (c .before .match .keys2) refl (c .refuse .ensures)
 
 with-number-requires : tie.Need-with-number-requires
 with-number-requires c κs = search needs
@@ -46,11 +46,11 @@ returns-2 c = λ k.
     let told = c .before .before .before .before .before in
     let asked = told .before .before in
     let entered = asked .before .before .before .before .before .before in
-    let call = entered .args .call in
-    let e = asked-as closeWindow (call .registers) (lent (call .session) (entered .args .flash .now) (entered .args .memory .now)) (asked .reason-for .ensures) k (asked .before .undefined-flags .ensures (roundUp (length (entered .args .flash .now)))) in
+    let call = entered .before .args .call in
+    let e = asked-as closeWindow (call .registers) (lent (call .session) (entered .before .args .flash .now) (entered .before .args .worn .now) (entered .before .args .memory .now)) (asked .reason-for .ensures) k (asked .before .undefined-flags .ensures (roundUp (length (entered .before .args .flash .now)))) in
     c .before .before .close .ensures
-    ∙ ap (λ (s : Session). closed (call .registers) (lent s (entered .args .flash .now) (entered .args .memory .now))) (c .before .before .before .before .with-number .ensures)
-    ∙ accepted-by closeWindow (setUp (call .board)) (call .registers) (lent (call .session) (entered .args .flash .now) (entered .args .memory .now)) (asked .reason-for .result) e (told .enum-told .given .1)
+    ∙ ap (λ (s : Session). closed (call .registers) (lent s (entered .before .args .flash .now) (entered .before .args .worn .now) (entered .before .args .memory .now))) (c .before .before .before .before .with-number .ensures)
+    ∙ accepted-by closeWindow (setUp (call .board)) (call .registers) (lent (call .session) (entered .before .args .flash .now) (entered .before .args .worn .now) (entered .before .args .memory .now)) (asked .reason-for .result) e (told .enum-told .given .1)
 
 pub close-window-spec : {M : Type 1} → statement M
 close-window-spec =

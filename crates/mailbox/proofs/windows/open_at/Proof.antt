@@ -10,7 +10,7 @@ use Rattle.units.specs.Units.{roundUp}
 use Rattle.session.specs.Machine.{setUp, lent}
 use Rattle.registers.specs.Registers.{number}
 use Rattle.mailbox.specs.Commands.{hint, sizeFor}
-use Rattle.mailbox.proofs.Front.{size-fits, opened-as}
+use Rattle.mailbox.proofs.Front.{size-fits, opening-as}
 use Rattle.mailbox.proofs.windows.open_at.Statement.{statement}
 use Rattle.mailbox.proofs.windows.open_at.Tie as tie
 
@@ -25,7 +25,7 @@ window-size-requires c κs = search needs
 
 open-window-requires : tie.Need-open-window-requires
 open-window-requires c κs =
-    let a = c .before .before .before .before .before .before .before .args in
+    let a = c .before .before .before .before .before .before .before .before .args in
     let S = roundUp (length (a .flash .now)) in
     let C = roundUp (length (a .memory .now)) in
     let first : c .before .before .before .before .read-words .result .first ≡ number 2 0 (a .registers) = c .before .before .before .before .read-words .ensures .0 in
@@ -33,8 +33,8 @@ open-window-requires c κs =
     c .before .before .window-size .ensures
     ∙ ap (λ (o : ℕ). sizeFor S C o (c .before .before .before .late .result)) first
     ∙ ap (sizeFor S C (number 2 0 (a .registers))) (c .before .before .before .late .ensures ∙ ap (λ (n : ℕ). cond (ltb (a .session .version) 2) 0 n) (c .before .before .before .before .read-words .ensures .1)) in
-    let f = size-fits S C (number 2 0 (a .registers)) (hint (a .session) (a .registers)) (c .before .before .before .before .before .before .before .pre .0) in
-    (omega (arith, first, size, f .0, c .before .before .before .before .before .before .before .pre .1 .0 .0), omega (arith, size, f .1, c .before .before .before .before .before .before .before .pre .1 .1 .0))
+    let f = size-fits S C (number 2 0 (a .registers)) (hint (a .session) (a .registers)) (c .before .before .before .before .before .before .before .before .pre .0) in
+    (omega (arith, first, size, f .0, c .before .before .before .before .before .before .before .before .pre .1 .0 .0), omega (arith, size, f .1, c .before .before .before .before .before .before .before .before .pre .1 .1 .0))
 
 same-length : tie.Need-same-length
 same-length c = search needs
@@ -44,7 +44,7 @@ same-length-2 c = search needs
 
 returns : tie.Need-returns
 returns c =
-    let a = c .before .before .before .before .before .before .before .before .before .before .before .before .args in
+    let a = c .before .before .before .before .before .before .before .before .before .before .before .before .before .args in
     let S = roundUp (length (a .flash .now)) in
     let C = roundUp (length (a .memory .now)) in
     let first : c .before .before .before .before .before .before .before .before .before .read-words .result .first ≡ number 2 0 (a .registers) = c .before .before .before .before .before .before .before .before .before .read-words .ensures .0 in
@@ -53,7 +53,7 @@ returns c =
     ∙ ap (λ (o : ℕ). sizeFor S C o (c .before .before .before .before .before .before .before .before .late .result)) first
     ∙ ap (sizeFor S C (number 2 0 (a .registers))) (c .before .before .before .before .before .before .before .before .late .ensures ∙ ap (λ (n : ℕ). cond (ltb (a .session .version) 2) 0 n) (c .before .before .before .before .before .before .before .before .before .read-words .ensures .1)) in
     let call = c .before .before .before .before .open-window in
-    call .ensures ∙ opened-as (a .window) (setUp (a .board)) (a .registers) (lent (a .session) (a .flash .now) (a .memory .now)) first size
+    call .ensures ∙ opening-as (a .window) (setUp (a .board)) (a .registers) (lent (a .session) (a .flash .now) (a .worn .now) (a .memory .now)) first size
 
 pub open-at-spec : {M : Type 1} → statement M
 open-at-spec =
