@@ -18,7 +18,7 @@ use Rattle.flush.specs.Worn.{isWorn, fails, untilFailure, someFail, fini
 use Rattle.flush.proofs.Lists.{by-asked, clear-none, actions-append}
 
 -- one more on both sides
-less-suc : (a b : ℕ) → ltb (suc a) (suc b) ≡ ltb a b
+pub less-suc : (a b : ℕ) → ltb (suc a) (suc b) ≡ ltb a b
 less-suc a b =
     ⊎-elim
     (λ (h : a < b). lt-ltb (suc a) (suc b) (omega arith) ∙ sym (lt-ltb a b h))

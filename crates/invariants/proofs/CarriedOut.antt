@@ -1,7 +1,7 @@
 -- The flush of a sound session's window carries out its marks: every byte of the flash, and the number of actions.
-use mathlib.Core.Path.{_≡_, refl, sym, ap, _∙_}
+use mathlib.Core.Path.{_≡_, refl, sym, ap, subst, _∙_}
 use mathlib.Core.Bool.{true, false, cond, true≢false}
-use mathlib.Core.List.{List}
+use mathlib.Core.List.{List, []}
 use mathlib.Core.Logic.{_⊎_, inl, inr, ⊎-elim}
 use mathlib.Core.Option.{none, some}
 use Prim.Native.Nat.{ℕ, _+_, _-_, _/_, _≤_, _<_}
@@ -22,14 +22,17 @@ use Rattle.soundness.proofs.SoundMarks.{marks-within}
 use Rattle.soundness.proofs.Facts.{sized, sizes, Fitting, fitting, part-within}
 use Rattle.session.specs.Machine.{lent}
 use Rattle.session.specs.Marks.{dirty, erasedMark}
-use Rattle.flush.specs.Actions.{Action}
-use Rattle.flush.specs.Window.{windowActions, windowPart, partEnd, performIn, flushWhole}
+use Rattle.flush.specs.Actions.{Action, flushActions}
+use Rattle.flush.specs.Worn.{untilFailure}
+use Rattle.flush.specs.Window.{windowActions, windowPart, partEnd, performIn, windowWorn, doneActions, flushWhole}
 use Rattle.flush.proofs.Lists.{flush-count, flush-unmarked, flush-few}
 use Rattle.flush.proofs.Bytes.{AllIn}
 use Rattle.flush.proofs.Cuts.{all-flush, byteOf, flush-byte}
-use Rattle.flush.proofs.Whole.{part-length, in-none, in-length, in-part, in-outside}
+use Rattle.flush.proofs.Failing.{until-all, some-none, until-finished}
+use Rattle.flush.proofs.Whole.{in-same, part-length, in-none, in-length, in-part, in-outside}
 use Rattle.refusals.specs.Refusals.{isWrite}
-use Rattle.invariants.specs.Demand2.{atClose, markAt, windowByte, becomes, CarriedOut, Leaves}
+use Rattle.invariants.specs.Demand2.{atClose, reaching, markAt, windowByte, becomes, CarriedOut, Leaves}
+use Rattle.invariants.proofs.Reach.{reached-is, reached-sound}
 
 not-markable : (w : Window) (n : ℕ) → isWrite w ≡ false → markable w n ≡ 0
 not-markable Closed n e = refl
@@ -47,22 +50,9 @@ byte-by-mark : (mark new old : ℕ) → (mark ≡ dirty → new < 256)
 byte-by-mark mark new old h =
     ⊎-elim (λ (t : eqb mark dirty ≡ true). rw t (ff-and new (h (eqb-true mark dirty t)))) (λ (t : eqb mark dirty ≡ false). rw t) (decided (eqb mark dirty))
 
-module _ (s : Session) (flash memory : List ℕ) (e : sound (length flash) (length memory) s ≡ true) where
-  fits : partEnd s ≤ length flash
-  fits = part-within (length flash) (length memory) s e .0
-
-  room : toBytes (s .size) ≤ length memory
-  room = part-within (length flash) (length memory) s e .1
-
-  fit : Fitting (roundUp (length flash)) (roundUp (length memory)) s
-  fit = fitting (roundUp (length flash)) (roundUp (length memory)) s (sizes (length flash) (length memory) s e .2)
-
-  marks : marksSound (s .size) (s .marks) ≡ true
-  marks = marks-within (s .window) (s .size) (s .marks) (fit .marks)
-
-  small : s .size ≤ 64
-  small = omega (arith, fit .in-memory, sized 64 (length memory) (sizes (length flash) (length memory) s e .1) .few)
-
+-- ---- a session whose window lies in both buffers, with marks that are sound
+module _ (s : Session) (flash memory : List ℕ) (fits : partEnd s ≤ length flash) (room : toBytes (s .size) ≤ length memory) (small : s .size ≤ 64)
+    (marks : marksSound (s .size) (s .marks) ≡ true) where
   all : AllIn (s .size) (windowActions s)
   all = all-flush (s .size) (s .marks) marks
 
@@ -97,25 +87,60 @@ module _ (s : Session) (flash memory : List ℕ) (e : sound (length flash) (leng
       stays : (x < toBytes (s .first)) ⊎ (partEnd s ≤ x) → getD (performIn s memory (windowActions s) flash) x 0 ≡ getD flash x 0
       stays o = in-outside s flash fits memory room (windowActions s) all x o
 
-  pub carried-out : CarriedOut s flash memory (flushWhole (lent s flash memory) .flash) (flushWhole (lent s flash memory) .actions)
-  unfolding flushWhole
-  carried-out =
-      rw e
-      (record {
+  pub performed-carries : CarriedOut s flash memory (performIn s memory (windowActions s) flash) (length (windowActions s))
+  performed-carries =
+      record {
         long = in-length s flash fits memory room (windowActions s) all;
         bytes = byte-is;
         number = flush-count (s .marks);
         few = omega (arith, flush-few (s .size) (s .marks) marks, small);
-      })
+      }
+
+-- ---- a sound session, on a chip with worn blocks
+module _ (s : Session) (flash worn memory : List ℕ) (e : sound (length flash) (length worn) (length memory) s ≡ true) where
+  pub window-fits : partEnd s ≤ length flash
+  window-fits = part-within (length flash) (length worn) (length memory) s e .0
+
+  pub window-room : toBytes (s .size) ≤ length memory
+  window-room = part-within (length flash) (length worn) (length memory) s e .1
+
+  fit : Fitting (roundUp (length flash)) (roundUp (length memory)) s
+  fit = fitting (roundUp (length flash)) (roundUp (length memory)) s (sizes (length flash) (length worn) (length memory) s e .2)
+
+  pub window-marks : marksSound (s .size) (s .marks) ≡ true
+  window-marks = marks-within (s .window) (s .size) (s .marks) (fit .marks)
+
+  window-small : s .size ≤ 64
+  window-small = omega (arith, fit .in-memory, sized 64 (length memory) (sizes (length flash) (length worn) (length memory) s e .1) .few)
+
+  -- what is done before the first failure is what the marks that are reached ask for
+  pub done-reached : doneActions (lent s flash worn memory) ≡ windowActions (reaching worn s)
+  done-reached =
+      until-finished (windowWorn s worn) (s .marks)
+      ∙ ap flushActions (sym (reached-is worn (s .first) (s .size) (s .marks) window-marks))
+
+  pub carried-out : CarriedOut (reaching worn s) flash memory (flushWhole (lent s flash worn memory) .flash) (flushWhole (lent s flash worn memory) .actions)
+  unfolding flushWhole
+  carried-out =
+      rw e
+      (subst (λ (xs : List Action). CarriedOut (reaching worn s) flash memory (performIn s memory xs flash) (length xs)) (sym done-reached)
+      (subst (λ (after : List ℕ). CarriedOut (reaching worn s) flash memory after (length (windowActions (reaching worn s))))
+      (in-same (reaching worn s) s refl refl memory (windowActions (reaching worn s)) flash)
+      (performed-carries (reaching worn s) flash memory window-fits window-room window-small (reached-sound worn (s .first) (s .size) (s .marks) window-marks))))
 
   -- without a write window nothing is marked
-  nothing : isWrite (s .window) ≡ false → (flushWhole (lent s flash memory) .flash ≡ flash) × (flushWhole (lent s flash memory) .actions ≡ 0)
+  nothing : isWrite (s .window) ≡ false → (flushWhole (lent s flash worn memory) .flash ≡ flash) × (flushWhole (lent s flash worn memory) .actions ≡ 0)
   unfolding flushWhole
   nothing w =
-      let empty = flush-unmarked (s .marks) (rw (not-markable (s .window) (s .size) w) at (fit .marks)) in
-      rw e (ap (λ (t : List Action). performIn s memory t flash) empty ∙ in-none s flash fits memory room, ap length empty)
+      let empty = done-none w in
+      rw e (ap (λ (t : List Action). performIn s memory t flash) empty ∙ in-none s flash window-fits memory window-room, ap length empty)
+    where
+      done-none : isWrite (s .window) ≡ false → doneActions (lent s flash worn memory) ≡ []
+      done-none w =
+          let none = flush-unmarked (s .marks) (rw (not-markable (s .window) (s .size) w) at (fit .marks)) in
+          ap (untilFailure (windowWorn s worn)) none ∙ until-all (windowWorn s worn) [] (some-none (windowWorn s worn))
 
-  pub close-leaves : Leaves (atClose s) flash memory (flushWhole (lent s flash memory) .flash) (flushWhole (lent s flash memory) .actions)
+  pub close-leaves : Leaves (atClose s) flash worn memory (flushWhole (lent s flash worn memory) .flash) (flushWhole (lent s flash worn memory) .actions)
   close-leaves =
-      chosen (λ o. Leaves o flash memory (flushWhole (lent s flash memory) .flash) (flushWhole (lent s flash memory) .actions)) (isWrite (s .window)) (some s) none
+      chosen (λ o. Leaves o flash worn memory (flushWhole (lent s flash worn memory) .flash) (flushWhole (lent s flash worn memory) .actions)) (isWrite (s .window)) (some s) none
       (λ _. carried-out) nothing

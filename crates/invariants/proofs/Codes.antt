@@ -6,7 +6,7 @@ use native.Mathlib.Omega.{arith}
 use lib.Dec.{leb, eqb, lit≤}
 use borrow.Author.Tests.{ne-eqb, le-leb, lt-leb}
 use Rattle.refusals.specs.Refusals.{neverBroken, needsNumber, needsAccess, needsWindow}
-use Rattle.mailbox.specs.Commands.{refused, closing}
+use Rattle.mailbox.specs.Commands.{refused, closingFirst}
 use Rattle.mailbox.specs.Table.{Command, unknown}
 use Rattle.mailbox.specs.Mediator.{commandAt}
 use Rattle.mailbox.proofs.Mediating.{past-table}
@@ -82,5 +82,5 @@ codes-as-said (suc (suc (suc (suc (suc (suc (suc (suc (suc (suc (suc n))))))))))
     rules : neverBroken ≡ ruleOf (suc (suc (suc (suc (suc (suc (suc (suc (suc (suc (suc n)))))))))))
     rules = rw (off n 2 (lit≤ tt), off n 4 (lit≤ tt), off n 6 (lit≤ tt), off n 5 (lit≤ tt), off n 7 (lit≤ tt), off n 10 (lit≤ tt), off n 8 (lit≤ tt))
 
-    refusals : refused ≡ cond (isCreate (suc (suc (suc (suc (suc (suc (suc (suc (suc (suc (suc n)))))))))))) closing refused
+    refusals : refused ≡ cond (isCreate (suc (suc (suc (suc (suc (suc (suc (suc (suc (suc (suc n)))))))))))) closingFirst refused
     refusals = rw (off n 4 (lit≤ tt), off n 6 (lit≤ tt))

@@ -3,11 +3,13 @@
 use mathlib.Core.Path.{_≡_, refl, sym, ap, subst, _∙_}
 use mathlib.Core.Bool.{Bool, true, false, cond, _&&_, false≢true}
 use mathlib.Core.List.{List}
-use mathlib.Core.Option.{Option, none}
+use mathlib.Core.Option.{Option, none, some}
 use Prim.Native.Nat.{ℕ}
 use native.Mathlib.Omega.{arith}
 use lib.ListN.{length}
 use Rattle.session.specs.declared.Session.{Session}
+use Rattle.session.specs.declared.Window.{Window}
+use Rattle.session.specs.declared.Window.the-variants.{Read, Write}
 use Rattle.session.specs.Machine.{Setup, lent}
 use Rattle.soundness.specs.Soundness.{sessionSound, sound, soundAt, soundIn}
 use Rattle.soundness.proofs.Facts.{measured}
@@ -20,12 +22,13 @@ use Rattle.refusals.specs.declared.Needs.the-variants.{Access}
 use Rattle.registers.specs.Registers.{commandOf, sequenceOf}
 use Rattle.refusals.specs.Refusals.{flushMarks, isPrevious, needsNumber, codeFor, reasonFor}
 use Rattle.refusals.proofs.Accepting.{passed}
-use Rattle.mailbox.specs.Commands.{Outcome, numbered, marked, flushing}
-use Rattle.mailbox.specs.Table.{Command, flush}
+use Rattle.mailbox.specs.Commands.{Outcome, numbered, marked, created, flushing}
+use Rattle.mailbox.specs.Table.{Command, create, flush}
 use Rattle.mailbox.specs.Mediator.{commandAt, commandIn, reasonOf, reasonIn, answerTo, obeyed, mediate}
+use Rattle.mailbox.proofs.Ends.{close-ends, flush-ends, open-ends}
 use Rattle.mailbox.proofs.Mediating.{each-command}
 use Rattle.invariants.specs.Codes.{isCreate}
-use Rattle.invariants.specs.Demand2.{atClose, flushedBy, flushedFor, CarriedOut, Leaves, Demand2}
+use Rattle.invariants.specs.Demand2.{atClose, flushedBy, flushedFor, reaching, CarriedOut, Leaves, Demand2}
 use Rattle.invariants.proofs.CarriedOut.{carried-out, close-leaves}
 use Rattle.invariants.proofs.Kept.{flush-sound}
 
@@ -42,20 +45,20 @@ argument-late true s registers false needs broken e = absurd (repeats (needsNumb
     repeats false q = let z : _≡_ {A = ℕ} 0 1 = cc in omega arith
 
 -- what is to be shown of an outcome
-abbrev Carries : List ℕ → List ℕ → Option Session → Outcome → Type 0
-Carries flash memory t o = Leaves t flash memory (o .machine .flash) (o .actions)
+abbrev Carries : List ℕ → List ℕ → List ℕ → Option Session → Outcome → Type 0
+Carries flash worn memory t o = Leaves t flash worn memory (o .machine .flash) (o .actions)
 
-module _ (setup : Setup) (s : Session) (registers flash memory : List ℕ) where
+module _ (setup : Setup) (s : Session) (registers flash worn memory : List ℕ) where
   -- the previous number has no part in a flush
-  closes : soundAt setup (length flash) (length memory) s ≡ true
-      → Leaves (atClose s) flash memory (flushWhole (lent (numbered s registers) flash memory) .flash) (flushWhole (lent (numbered s registers) flash memory) .actions)
+  closes : soundAt setup (length flash) (length worn) (length memory) s ≡ true
+      → Leaves (atClose s) flash worn memory (flushWhole (lent (numbered s registers) flash worn memory) .flash) (flushWhole (lent (numbered s registers) flash worn memory) .actions)
   unfolding flushWhole sound sessionSound performIn
-  closes e = close-leaves s flash memory (measured setup (length flash) (length memory) s e .sound)
+  closes e = close-leaves s flash worn memory (measured setup (length flash) (length worn) (length memory) s e .sound)
 
-  carries : (t : Session) → sound (length flash) (length memory) (numbered t registers) ≡ true
-      → CarriedOut t flash memory (flushWhole (lent (numbered t registers) flash memory) .flash) (flushWhole (lent (numbered t registers) flash memory) .actions)
+  carries : (t : Session) → sound (length flash) (length worn) (length memory) (numbered t registers) ≡ true
+      → CarriedOut (reaching worn t) flash memory (flushWhole (lent (numbered t registers) flash worn memory) .flash) (flushWhole (lent (numbered t registers) flash worn memory) .actions)
   unfolding flushWhole sound sessionSound performIn
-  carries t e = carried-out t flash memory e
+  carries t e = carried-out t flash worn memory e
 
   -- nor in the marks that a FLUSH adds
   numbered-adds : (m : Bool) → cond m (marked dirty (numbered s registers) registers) (numbered s registers)
@@ -66,12 +69,12 @@ module _ (setup : Setup) (s : Session) (registers flash memory : List ℕ) where
   -- a command that no check refused, by its row
   abbrev Served : ℕ → Command → Type 0
   Served n c =
-      commandOf registers ≡ n → reasonOf c (soundIn setup (lent s flash memory)) registers (lent s flash memory) ≡ Accepted
-      → Carries flash memory (flushedBy n s registers) (c .leaves setup registers (lent (numbered s registers) flash memory))
+      commandOf registers ≡ n → reasonOf c (soundIn setup (lent s flash worn memory)) registers (lent s flash worn memory) ≡ Accepted
+      → Carries flash worn memory (flushedBy n s registers) (c .leaves setup registers (lent (numbered s registers) flash worn memory))
 
   accepted-sound : (known : Bool) (needs : Needs) (broken : Bool)
-      → reasonFor (soundIn setup (lent s flash memory)) s registers known needs broken ≡ Accepted → soundAt setup (length flash) (length memory) s ≡ true
-  accepted-sound known needs broken a = passed (soundIn setup (lent s flash memory)) s registers known needs broken a .sounds
+      → reasonFor (soundIn setup (lent s flash worn memory)) s registers known needs broken ≡ Accepted → soundAt setup (length flash) (length worn) (length memory) s ≡ true
+  accepted-sound known needs broken a = passed (soundIn setup (lent s flash worn memory)) s registers known needs broken a .sounds
 
   no-system : Accepted ≡ System → ⊥
   no-system q = let z : _≡_ {A = ℕ} 0 1 = cc in omega arith
@@ -80,10 +83,22 @@ module _ (setup : Setup) (s : Session) (registers flash memory : List ℕ) where
   unfolding commandAt
   flushes c a =
       let t = flushing s registers in
-      let same = numbered-adds (flushMarks s registers) in
-      let accepted = ap (λ (n : ℕ). reasonOf (commandAt n) (soundIn setup (lent s flash memory)) registers (lent s flash memory)) c ∙ a in
-      subst (λ (u : Session). CarriedOut t flash memory (flushWhole (lent u flash memory) .flash) (flushWhole (lent u flash memory) .actions)) (sym same)
-      (carries t (subst (λ (u : Session). sound (length flash) (length memory) u ≡ true) same (flush-sound setup registers (lent s flash memory) (λ q. no-system (sym accepted ∙ q)) .1 c accepted)))
+      flush-ends (Carries flash worn memory (some t)) registers (lent (flushing (numbered s registers) registers) flash worn memory) (λ _. carried c a) (λ _. carried c a)
+    where
+      carried : commandOf registers ≡ flush .code → reasonOf flush (soundIn setup (lent s flash worn memory)) registers (lent s flash worn memory) ≡ Accepted
+          → CarriedOut (reaching worn (flushing s registers)) flash memory (flushWhole (lent (flushing (numbered s registers) registers) flash worn memory) .flash) (flushWhole (lent (flushing (numbered s registers) registers) flash worn memory) .actions)
+      carried c a =
+          let t = flushing s registers in
+          let same = numbered-adds (flushMarks s registers) in
+          let accepted = ap (λ (n : ℕ). reasonOf (commandAt n) (soundIn setup (lent s flash worn memory)) registers (lent s flash worn memory)) c ∙ a in
+          subst (λ (u : Session). CarriedOut (reaching worn t) flash memory (flushWhole (lent u flash worn memory) .flash) (flushWhole (lent u flash worn memory) .actions)) (sym same)
+          (carries t (subst (λ (u : Session). sound (length flash) (length worn) (length memory) u ≡ true) same (flush-sound setup registers (lent s flash worn memory) (λ q. no-system (sym accepted ∙ q)) .1 c accepted)))
+
+  creates : (w : Window) → {n : ℕ} → commandOf registers ≡ n → reasonOf (create n w) (soundIn setup (lent s flash worn memory)) registers (lent s flash worn memory) ≡ Accepted
+      → Carries flash worn memory (atClose s) (created w setup registers (lent (numbered s registers) flash worn memory))
+  creates w c a =
+      open-ends (Carries flash worn memory (atClose s)) registers (lent (numbered s registers) flash worn memory) w _ _ setup
+      (λ _. closes (accepted-sound _ _ _ a)) (λ _. closes (accepted-sound _ _ _ a))
 
   served-carries : (n : ℕ) → Served n (commandAt n)
   served-carries =
@@ -91,20 +106,20 @@ module _ (setup : Setup) (s : Session) (registers flash memory : List ℕ) where
       (λ c a. (refl, refl))
       (λ c a. (refl, refl))
       (λ c a. (refl, refl))
-      (λ c a. closes (accepted-sound _ _ _ a))
-      (λ c a. closes (accepted-sound _ _ _ a))
-      (λ c a. closes (accepted-sound _ _ _ a))
+      (creates Read)
+      (λ c a. close-ends (Carries flash worn memory (atClose s)) registers (lent (numbered s registers) flash worn memory) (λ _. closes (accepted-sound _ _ _ a)) (λ _. closes (accepted-sound _ _ _ a)))
+      (creates Write)
       (λ c a. (refl, refl))
       flushes
       (λ c a. (refl, refl))
       (λ c a. (refl, refl))
-      (λ n c a. absurd (false≢true (passed (soundIn setup (lent s flash memory)) s registers false Access false a .knows)))
+      (λ n c a. absurd (false≢true (passed (soundIn setup (lent s flash worn memory)) s registers false Access false a .knows)))
 
   -- a refusal for an argument
   abbrev Broken : ℕ → Command → Type 0
   Broken n c =
-      reasonOf c (soundIn setup (lent s flash memory)) registers (lent s flash memory) ≡ Argument
-      → Carries flash memory (cond (isCreate n) (atClose s) none) (c .whenBroken (codeFor (s .version) Argument) registers (lent (numbered s registers) flash memory))
+      reasonOf c (soundIn setup (lent s flash worn memory)) registers (lent s flash worn memory) ≡ Argument
+      → Carries flash worn memory (cond (isCreate n) (atClose s) none) (c .whenBroken (codeFor (s .version) Argument) registers (lent (numbered s registers) flash worn memory))
 
   broken-carries : (n : ℕ) → Broken n (commandAt n)
   broken-carries =
@@ -112,18 +127,18 @@ module _ (setup : Setup) (s : Session) (registers flash memory : List ℕ) where
       (λ a. (refl, refl))
       (λ a. (refl, refl))
       (λ a. (refl, refl))
-      (λ a. closes (argument-late (soundIn setup (lent s flash memory)) s registers _ _ _ a .0))
+      (λ a. closes (argument-late (soundIn setup (lent s flash worn memory)) s registers _ _ _ a .0))
       (λ a. (refl, refl))
-      (λ a. closes (argument-late (soundIn setup (lent s flash memory)) s registers _ _ _ a .0))
-      (λ a. (refl, refl))
-      (λ a. (refl, refl))
+      (λ a. closes (argument-late (soundIn setup (lent s flash worn memory)) s registers _ _ _ a .0))
       (λ a. (refl, refl))
       (λ a. (refl, refl))
-      (λ n a. absurd (false≢true (argument-late (soundIn setup (lent s flash memory)) s registers false Access false a .1)))
+      (λ a. (refl, refl))
+      (λ a. (refl, refl))
+      (λ n a. absurd (false≢true (argument-late (soundIn setup (lent s flash worn memory)) s registers false Access false a .1)))
 
   -- whatever the first check that refuses
-  answer-carries : (r : Reason) → reasonIn setup registers (lent s flash memory) ≡ r
-      → Carries flash memory (flushedFor r s registers) (answerTo r (commandIn registers) setup registers (lent s flash memory))
+  answer-carries : (r : Reason) → reasonIn setup registers (lent s flash worn memory) ≡ r
+      → Carries flash worn memory (flushedFor r s registers) (answerTo r (commandIn registers) setup registers (lent s flash worn memory))
   unfolding answerTo
   answer-carries Accepted a = served-carries (commandOf registers) refl a
   answer-carries System a = (refl, refl)
@@ -135,4 +150,4 @@ module _ (setup : Setup) (s : Session) (registers flash memory : List ℕ) where
 
 pub demand-2 : Demand2
 unfolding mediate obeyed
-demand-2 setup registers m = answer-carries setup (m .session) registers (m .flash) (m .memory) (reasonIn setup registers m) refl
+demand-2 setup registers m = answer-carries setup (m .session) registers (m .flash) (m .worn) (m .memory) (reasonIn setup registers m) refl

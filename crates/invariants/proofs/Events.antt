@@ -12,8 +12,10 @@ use mathlib.Core.Logic.{⊎-elim}
 use Rattle.units.proofs.Cases.{decided, chosen}
 use Rattle.units.specs.Units.{blockBytes, toBytes, roundUp}
 use Rattle.session.specs.declared.Session.{Session}
+use Rattle.session.specs.declared.Window.{Window}
+use Rattle.session.specs.declared.Window.the-variants.{Read, Write}
 use Rattle.session.specs.Events.{isSet, acknowledged}
-use Rattle.session.specs.Machine.{Setup, Machine}
+use Rattle.session.specs.Machine.{Setup, Machine, holding}
 use Rattle.session.specs.Marks.{dirty}
 use Rattle.session.proofs.Bits.{acknowledged-others}
 use Rattle.soundness.specs.Soundness.{sound, soundAt, soundIn}
@@ -26,9 +28,10 @@ use Rattle.refusals.specs.Refusals.{isPrevious, flushMarks, reasonFor}
 use Rattle.refusals.proofs.Accepting.{accepts}
 use Rattle.registers.specs.Registers.{commandOf, sequenceOf, argument, number, bytesOf, padded, reply}
 use Rattle.marklist.specs.MarkList.{answerFor, listed}
-use Rattle.mailbox.specs.Commands.{Outcome, numbered, numberedIn, marked, infoArguments, sizeFor, hint, createArguments}
+use Rattle.mailbox.specs.Commands.{Outcome, numbered, numberedIn, marked, infoArguments, sizeFor, hint, createArguments, created, closed, flushing, flushed}
 use Rattle.mailbox.specs.Table.{Command}
 use Rattle.mailbox.specs.Mediator.{commandAt, reasonOf, reasonIn}
+use Rattle.mailbox.proofs.Ends.{close-ends, flush-ends, open-ends}
 use Rattle.mailbox.proofs.Mediating.{carried, each-command, each-answer}
 use Rattle.invariants.specs.Events.{eventsAfter, EventsAsSaid, CommandEvents, EventsShown, DisagreeingRefused}
 
@@ -46,16 +49,31 @@ module _ (setup : Setup) (registers : List ℕ) (m : Machine) where
       chosen (λ (t : Session). t .events ≡ before) (flushMarks (numbered (m .session) registers) registers)
       (marked dirty (numbered (m .session) registers) registers) (numbered (m .session) registers) (λ _. refl) (λ _. refl)
 
+  -- and so do a FLUSH, a CLOSE_WINDOW and a create, whether an erase fails or not
+  abbrev Same : Outcome → Type 0
+  Same o = o .machine .session .events ≡ before
+
+  flush-same : Same (flushed registers (numberedIn registers m))
+  flush-same = flush-ends Same registers (holding (flushing (numbered (m .session) registers) registers) m) (λ _. flushing-same) (λ _. flushing-same)
+
+  close-same : Same (closed registers (numberedIn registers m))
+  close-same = close-ends Same registers (numberedIn registers m) (λ _. refl) (λ _. refl)
+
+  create-same : (w : Window) → Same (created w setup registers (numberedIn registers m))
+  create-same w = open-ends Same registers (numberedIn registers m) w _ _ setup (λ _. refl) (λ _. refl)
+
   -- ---- the byte after a command that no check refused, by its row
   served-same : (n : ℕ) → (n ≡ 9 → ⊥) → commandAt n .leaves setup registers (numberedIn registers m) .machine .session .events ≡ before
   served-same =
       each-command (λ (n : ℕ) (c : Command). (n ≡ 9 → ⊥) → c .leaves setup registers (numberedIn registers m) .machine .session .events ≡ before)
-      (λ _. refl) (λ _. refl) (λ _. refl) (λ _. refl) (λ _. refl) (λ _. refl) (λ _. refl) (λ _. flushing-same) (λ other. absurd (other refl)) (λ _. refl) (λ _ _. refl)
+      (λ _. refl) (λ _. refl) (λ _. refl) (λ _. create-same Read) (λ _. close-same) (λ _. create-same Write) (λ _. refl) (λ _. flush-same) (λ other. absurd (other refl)) (λ _. refl)
+      (λ _ _. refl)
 
   served-others : (n : ℕ) → bitAnd (commandAt n .leaves setup registers (numberedIn registers m) .machine .session .events) 0xfc ≡ bitAnd before 0xfc
   served-others =
       each-command (λ (_ : ℕ) (c : Command). bitAnd (c .leaves setup registers (numberedIn registers m) .machine .session .events) 0xfc ≡ bitAnd before 0xfc)
-      refl refl refl refl refl refl refl (ap (λ (n : ℕ). bitAnd n 0xfc) flushing-same) (acknowledged-others (argument 0 registers) before) refl (λ _. refl)
+      refl refl refl (ap (λ (n : ℕ). bitAnd n 0xfc) (create-same Read)) (ap (λ (n : ℕ). bitAnd n 0xfc) close-same) (ap (λ (n : ℕ). bitAnd n 0xfc) (create-same Write)) refl
+      (ap (λ (n : ℕ). bitAnd n 0xfc) flush-same) (acknowledged-others (argument 0 registers) before) refl (λ _. refl)
 
   -- and after a refusal for its argument
   broken-same : (code n : ℕ) → commandAt n .whenBroken code registers (numberedIn registers m) .machine .session .events ≡ before
@@ -89,17 +107,23 @@ module _ (setup : Setup) (registers : List ℕ) (m : Machine) where
       place : 13 ≡ length (padded arguments) + 2
       place = simp (length-take, length-append, length-replicate) (omega arith)
 
+  create-shown : (w : Window) → Shown (created w setup registers (numberedIn registers m))
+  create-shown w =
+      let o = number 2 0 registers in
+      let z = sizeFor (roundUp (length (m .flash))) (roundUp (length (m .memory))) o (hint (m .session) registers) in
+      open-ends Shown registers (numberedIn registers m) w o z setup (λ _. refl)
+      (λ _. shown-at 1 (createArguments (m .session .version) (setup .lpc) z o) before)
+
   served-shown : (n : ℕ) → Shown (commandAt n .leaves setup registers (numberedIn registers m))
   served-shown =
       let S = roundUp (length (m .flash)) in
       let C = roundUp (length (m .memory)) in
-      let o = number 2 0 registers in
-      let new = shown-at 1 (createArguments (m .session .version) (setup .lpc) (sizeFor S C o (hint (m .session) registers)) o) before in
       each-command (λ (_ : ℕ) (c : Command). Shown (c .leaves setup registers (numberedIn registers m)))
       refl
       (shown-at 1 (infoArguments (min (argument 0 registers) 2) C (setup .timeout)) before)
       (shown-at 1 (cond (ltb (m .session .version) 2) (bytesOf 4 (toBytes S) ++ bytesOf 4 blockBytes) (bytesOf 2 S ++ bytesOf 2 1)) before)
-      new refl new refl refl refl refl (λ _. refl)
+      (create-shown Read) (close-ends Shown registers (numberedIn registers m) (λ _. refl) (λ _. refl)) (create-shown Write) refl
+      (flush-ends Shown registers (holding (flushing (numbered (m .session) registers) registers) m) (λ _. refl) (λ _. refl)) refl refl (λ _. refl)
 
   broken-shown : (code n : ℕ) → Shown (commandAt n .whenBroken code registers (numberedIn registers m))
   broken-shown code =
@@ -125,15 +149,15 @@ events-shown setup registers m =
     (λ code. broken-shown setup registers m code (commandOf registers)) (λ code. refl) (λ code. refl)
 
 -- ---- a disagreement is never sound
-disagreeing : (flash memory : ℕ) (s : Session) → (isSet 0x40 (s .events) ≡ s .suspended → ⊥) → sound flash memory s ≡ false
-disagreeing flash memory s apart =
+disagreeing : (flash worn memory : ℕ) (s : Session) → (isSet 0x40 (s .events) ≡ s .suspended → ⊥) → sound flash worn memory s ≡ false
+disagreeing flash worn memory s apart =
     ⊎-elim
-    (λ (e : sound flash memory s ≡ true). absurd (apart (told (s .suspended) (s .events) (fitting _ _ s (sizes flash memory s e .2) .access))))
-    (λ (e : sound flash memory s ≡ false). e)
-    (decided (sound flash memory s))
+    (λ (e : sound flash worn memory s ≡ true). absurd (apart (told (s .suspended) (s .events) (fitting _ _ s (sizes flash worn memory s e .2) .access))))
+    (λ (e : sound flash worn memory s ≡ false). e)
+    (decided (sound flash worn memory s))
 
 pub disagreeing-refused : DisagreeingRefused
 unfolding soundAt reasonFor answerFor listed advanced
 disagreeing-refused setup registers m apart =
-    let e = disagreeing (length (m .flash)) (length (m .memory)) (m .session) apart in
+    let e = disagreeing (length (m .flash)) (length (m .worn)) (length (m .memory)) (m .session) apart in
     (rw e, λ list. rw e, λ done. rw e)

@@ -14,7 +14,7 @@ use Rattle.refusals.specs.declared.Reason.{Reason}
 use Rattle.refusals.specs.declared.Reason.the-variants.{Accepted, System, Repeated, Unknown, Suspended, Windowless, Argument}
 use Rattle.refusals.specs.Refusals.{isPrevious, reasonFor}
 use Rattle.registers.specs.Registers.{argument}
-use Rattle.mailbox.specs.Commands.{numberedIn, closing}
+use Rattle.mailbox.specs.Commands.{numberedIn, closed}
 use Rattle.mailbox.specs.Table.{closeWindow}
 use Rattle.mailbox.specs.Mediator.{commandAt, reasonOf, reasonIn, answerTo, obeyed, mediate}
 use Rattle.mailbox.proofs.Mediating.{mediate-as, carried}
@@ -41,7 +41,7 @@ module _ (setup : Setup) (registers : List ℕ) (m : Machine) (r : ReachesFlags 
   unfolding commandAt reasonFor
   last-check e = rw (r .is-close, r .sound, r .new, le-leb 1 (m .session .version) (r .known), r .awake, e)
 
-  closed-by : Allowed (m .session .version) (argument 0 registers) → mediate setup registers m ≡ closing 1 registers (numberedIn registers m)
+  closed-by : Allowed (m .session .version) (argument 0 registers) → mediate setup registers m ≡ closed registers (numberedIn registers m)
   unfolding commandAt
   closed-by a = carried setup registers m 5 (r .is-close) (last-check (passes (m .session .version) (argument 0 registers) a))
 

@@ -29,13 +29,16 @@ use Rattle.refusals.proofs.Accepting.{passed, named-within}
 use Rattle.marklist.specs.declared.ListAnswer.the-variants.{Marked}
 use Rattle.marklist.specs.MarkList.{pairsOf, markPairs}
 use Rattle.marklist.proofs.Taken.{taken, list-left}
-use Rattle.mailbox.specs.Commands.{Outcome, numbered, sizeFor, hint, marked, created, ackAnswer}
+use Rattle.flush.specs.Worn.{finishedBlocks, marksKept}
+use Rattle.flush.specs.Window.{windowWorn, flushFails, flushWhole}
+use Rattle.mailbox.specs.Commands.{Outcome, numbered, sizeFor, hint, marked, opened, created, flushing, flushedAll, ackAnswer}
 use Rattle.mailbox.specs.Table.{Command, createReadWindow, createWriteWindow, create, from}
 use Rattle.mailbox.specs.Mediator.{commandAt, reasonOf, reasonIn}
+use Rattle.mailbox.proofs.Ends.{close-ends, flush-ends, open-ends}
 use Rattle.mailbox.proofs.Mediating.{each-command, each-answer}
 use Rattle.invariants.specs.Kept.{FreshSound, CommandKeeps, ListKeeps, AccessKeeps, FlushSound}
 use Rattle.mailbox.proofs.Front.{size-fits}
-use Rattle.invariants.proofs.MarksKept.{marked-sound, list-sound}
+use Rattle.invariants.proofs.MarksKept.{marked-sound, list-sound, cleared-sound}
 
 write-is : (w : Window) → isWrite w ≡ true → w ≡ Write
 write-is Closed e = absurd (false≢true e)
@@ -52,48 +55,59 @@ size-some S C o n h k =
     (λ (t : eqb n 0 ≡ false). let p = positive n (eqb-false n 0 t) in rw t (omega (arith, p)))
     (decided (eqb n 0))
 
-module _ (setup : Setup) (s : Session) (registers flash memory : List ℕ) (e : soundAt setup (length flash) (length memory) s ≡ true) where
+module _ (setup : Setup) (s : Session) (registers flash worn memory : List ℕ) (e : soundAt setup (length flash) (length worn) (length memory) s ≡ true) where
   -- what is to be shown of an outcome
   abbrev Keeps : Outcome → Type 0
-  Keeps o = soundAt setup (length flash) (length memory) (o .machine .session) ≡ true
+  Keeps o = soundAt setup (length flash) (length worn) (length memory) (o .machine .session) ≡ true
 
   fits : (t : Session) → t .version ≤ 2 → accessSound (t .suspended) (t .events) ≡ true → windowSound (t .window) (t .first) (t .size) (roundUp (length flash)) (roundUp (length memory)) ≡ true
-      → marksSound (markable (t .window) (t .size)) (t .marks) ≡ true → t .counts ≡ countsOf (t .marks) → soundAt setup (length flash) (length memory) t ≡ true
-  fits t v a w m n = refitted-at setup (length flash) (length memory) s t e v a w m n
+      → marksSound (markable (t .window) (t .size)) (t .marks) ≡ true → t .counts ≡ countsOf (t .marks) → soundAt setup (length flash) (length worn) (length memory) t ≡ true
+  fits t v a w m n = refitted-at setup (length flash) (length worn) (length memory) s t e v a w m n
 
   known : s .version ≤ 2
-  known = measured setup (length flash) (length memory) s e .fits .known
+  known = measured setup (length flash) (length worn) (length memory) s e .fits .known
 
   access : accessSound (s .suspended) (s .events) ≡ true
-  access = measured setup (length flash) (length memory) s e .fits .access
+  access = measured setup (length flash) (length worn) (length memory) s e .fits .access
 
   window : windowSound (s .window) (s .first) (s .size) (roundUp (length flash)) (roundUp (length memory)) ≡ true
-  window = measured setup (length flash) (length memory) s e .fits .window
+  window = measured setup (length flash) (length worn) (length memory) s e .fits .window
 
   marks : marksSound (markable (s .window) (s .size)) (s .marks) ≡ true
-  marks = measured setup (length flash) (length memory) s e .fits .marks
+  marks = measured setup (length flash) (length worn) (length memory) s e .fits .marks
 
   counts : s .counts ≡ countsOf (s .marks)
-  counts = measured setup (length flash) (length memory) s e .fits .counts
+  counts = measured setup (length flash) (length worn) (length memory) s e .fits .counts
 
   some : 1 ≤ roundUp (length memory)
-  some = measured setup (length flash) (length memory) s e .memory-sized .some
+  some = measured setup (length flash) (length worn) (length memory) s e .memory-sized .some
+
+  numbered-keeps : soundAt setup (length flash) (length worn) (length memory) (numbered s registers) ≡ true
+  numbered-keeps = fits (numbered s registers) known access window marks counts
+
+  numbered-sound : sound (length flash) (length worn) (length memory) (numbered s registers) ≡ true
+  numbered-sound = measured setup (length flash) (length worn) (length memory) (numbered s registers) numbered-keeps .sound
+
+  drop-keeps : soundAt setup (length flash) (length worn) (length memory) (dropWindow (numbered s registers)) ≡ true
+  drop-keeps = fits (dropWindow (numbered s registers)) known access refl (clean-sound 0 64) refl
 
   -- a new window
   create-keeps : (w : Window) → ((o z : ℕ) → windowSound w o z (roundUp (length flash)) (roundUp (length memory)) ≡ activeSound o z (roundUp (length flash)) (roundUp (length memory)))
-      → number 2 0 registers < roundUp (length flash) → Keeps (created w setup registers (lent (numbered s registers) flash memory))
+      → number 2 0 registers < roundUp (length flash) → Keeps (created w setup registers (lent (numbered s registers) flash worn memory))
   create-keeps w active h =
       let o = number 2 0 registers in
       let n = hint (numbered s registers) registers in
       let z = sizeFor (roundUp (length flash)) (roundUp (length memory)) o n in
       let f = size-fits (roundUp (length flash)) (roundUp (length memory)) o n h in
-      fits (created w setup registers (lent (numbered s registers) flash memory) .machine .session) known access
+      let next = lent (numbered s registers) flash worn memory in
+      open-ends Keeps registers next w o z setup (λ _. drop-keeps)
+      (λ _. fits (opened w o z setup registers next .machine .session) known access
       (active o z ∙ rw (le-leb 1 z (size-some (roundUp (length flash)) (roundUp (length memory)) o n h some), le-leb z (roundUp (length memory)) (f .1), le-leb (o + z) (roundUp (length flash)) (f .0)))
-      (clean-sound (markable w z) 64) refl
+      (clean-sound (markable w z) 64) refl)
 
   -- new marks in a write window
   marked-keeps : (mark : ℕ) → leb mark 2 ≡ true → s .window ≡ Write → blocksNamed s registers .inside ≡ true
-      → soundAt setup (length flash) (length memory) (marked mark (numbered s registers) registers) ≡ true
+      → soundAt setup (length flash) (length worn) (length memory) (marked mark (numbered s registers) registers) ≡ true
   marked-keeps mark fine w inside =
       let limit : markable (s .window) (s .size) ≡ s .size = ap (λ (k : Window). markable k (s .size)) w in
       fits (marked mark (numbered s registers) registers) known access window
@@ -101,25 +115,37 @@ module _ (setup : Setup) (s : Session) (registers flash memory : List ℕ) (e : 
       ∙ marked-sound mark fine (s .size) (blocksNamed s registers .start) (blocksNamed s registers .count) (s .marks) (named-within s registers inside) (ap (λ (n : ℕ). marksSound n (s .marks)) (sym limit) ∙ marks))
       refl
 
-  -- a FLUSH, with or without marks of its own
-  flush-keeps : (adds : Bool)
-      → soundAt setup (length flash) (length memory) (withMarks clean (cond adds (marked dirty (numbered s registers) registers) (numbered s registers))) ≡ true
-  flush-keeps true = fits (withMarks clean (numbered s registers)) known access window (clean-sound (markable (s .window) (s .size)) 64) refl
-  flush-keeps false = fits (withMarks clean (numbered s registers)) known access window (clean-sound (markable (s .window) (s .size)) 64) refl
+  -- marks of which some are left out, after a flush of a session that is sound
+  left-sound : (t : Session) → sound (length flash) (length worn) (length memory) t ≡ true
+      → marksSound (markable (t .window) (t .size)) (flushWhole (lent t flash worn memory) .marks) ≡ true
+  unfolding flushWhole
+  left-sound t sounds =
+      rw sounds
+      (chosen (λ (ms : List ℕ). marksSound (markable (t .window) (t .size)) ms ≡ true) (flushFails (lent t flash worn memory))
+      (marksKept (windowWorn t worn) (t .marks)) clean
+      (λ _. cleared-sound (finishedBlocks (windowWorn t worn) (t .marks)) (markable (t .window) (t .size)) (t .marks) (measured setup (length flash) (length worn) (length memory) t (sound-with setup (length flash) (length worn) (length memory) s t e sounds) .fits .marks))
+      (λ _. clean-sound (markable (t .window) (t .size)) 64))
 
-  numbered-keeps : soundAt setup (length flash) (length memory) (numbered s registers) ≡ true
-  numbered-keeps = fits (numbered s registers) known access window marks counts
+  -- a FLUSH of a sound session, whether an erase fails or not, and a CLOSE_WINDOW of which one does
+  stop-keeps : (t : Session) → sound (length flash) (length worn) (length memory) t ≡ true
+      → soundAt setup (length flash) (length worn) (length memory) (withMarks (flushWhole (lent t flash worn memory) .marks) t) ≡ true
+  stop-keeps t sounds =
+      let z = measured setup (length flash) (length worn) (length memory) t (sound-with setup (length flash) (length worn) (length memory) s t e sounds) .fits in
+      fits (withMarks (flushWhole (lent t flash worn memory) .marks) t) (z .known) (z .access) (z .window) (left-sound t sounds) refl
 
-  drop-keeps : soundAt setup (length flash) (length memory) (dropWindow (numbered s registers)) ≡ true
-  drop-keeps = fits (dropWindow (numbered s registers)) known access refl (clean-sound 0 64) refl
+  flush-keeps : (t : Session) → sound (length flash) (length worn) (length memory) t ≡ true → Keeps (flushedAll registers (lent t flash worn memory))
+  flush-keeps t sounds =
+      let z = measured setup (length flash) (length worn) (length memory) t (sound-with setup (length flash) (length worn) (length memory) s t e sounds) .fits in
+      flush-ends Keeps registers (lent t flash worn memory) (λ _. stop-keeps t sounds)
+      (λ _. fits (withMarks clean t) (z .known) (z .access) (z .window) (clean-sound (markable (t .window) (t .size)) 64) refl)
 
-  version-keeps : soundAt setup (length flash) (length memory) (withVersion (min (argument 0 registers) 2) (numbered s registers)) ≡ true
+  version-keeps : soundAt setup (length flash) (length worn) (length memory) (withVersion (min (argument 0 registers) 2) (numbered s registers)) ≡ true
   version-keeps = fits (withVersion (min (argument 0 registers) 2) (numbered s registers)) (omega arith) access window marks counts
 
   -- a command that no check refused, by its row
   abbrev Served : Command → Type 0
   Served c =
-      (t : Bool) → reasonOf c t registers (lent s flash memory) ≡ Accepted → Keeps (c .leaves setup registers (lent (numbered s registers) flash memory))
+      (t : Bool) → reasonOf c t registers (lent s flash worn memory) ≡ Accepted → Keeps (c .leaves setup registers (lent (numbered s registers) flash worn memory))
 
   create-served : (code : ℕ) (w : Window) → ((o z : ℕ) → windowSound w o z (roundUp (length flash)) (roundUp (length memory)) ≡ activeSound o z (roundUp (length flash)) (roundUp (length memory)))
       → Served (create code w)
@@ -128,10 +154,22 @@ module _ (setup : Setup) (s : Session) (registers flash memory : List ℕ) (e : 
 
   marked-served : (known : Bool) (mark : ℕ) → leb mark 2 ≡ true → (t : Bool)
       → reasonFor t s registers known WriteWindow (not (blocksNamed s registers .inside)) ≡ Accepted
-      → soundAt setup (length flash) (length memory) (marked mark (numbered s registers) registers) ≡ true
+      → soundAt setup (length flash) (length worn) (length memory) (marked mark (numbered s registers) registers) ≡ true
   marked-served known mark fine t a =
       let p = passed t s registers known WriteWindow (not (blocksNamed s registers .inside)) a in
       marked-keeps mark fine (write-is (s .window) (not-false (isWrite (s .window)) (p .windowed))) (not-false (blocksNamed s registers .inside) (p .argued))
+
+  -- the session that an accepted FLUSH works from, with or without marks of its own
+  flushing-sound : (known t : Bool) → reasonFor t s registers known WriteWindow (flushMarks s registers && not (blocksNamed s registers .inside)) ≡ Accepted
+      → sound (length flash) (length worn) (length memory) (flushing (numbered s registers) registers) ≡ true
+  flushing-sound known t a =
+      let p = passed t s registers known WriteWindow (flushMarks s registers && not (blocksNamed s registers .inside)) a in
+      chosen (λ (u : Session). sound (length flash) (length worn) (length memory) u ≡ true) (flushMarks s registers) (marked dirty (numbered s registers) registers) (numbered s registers)
+      (λ adds.
+      measured setup (length flash) (length worn) (length memory) (marked dirty (numbered s registers) registers)
+      (marked-keeps dirty refl (write-is (s .window) (not-false (isWrite (s .window)) (p .windowed))) (not-false (blocksNamed s registers .inside) (rw adds at (p .argued))))
+      .sound)
+      (λ _. numbered-sound)
 
   served-keeps : (n : ℕ) → Served (commandAt n)
   served-keeps =
@@ -140,49 +178,49 @@ module _ (setup : Setup) (s : Session) (registers flash memory : List ℕ) (e : 
       (λ t a. version-keeps)
       (λ t a. numbered-keeps)
       (create-served (createReadWindow .code) Read (λ o z. refl))
-      (λ t a. drop-keeps)
+      (λ t a. close-ends Keeps registers (lent (numbered s registers) flash worn memory) (λ _. stop-keeps (numbered s registers) numbered-sound) (λ _. drop-keeps))
       (create-served (createWriteWindow .code) Write (λ o z. refl))
       (marked-served (from 1 (s .version)) dirty refl)
-      (λ t a. flush-keeps (flushMarks (numbered s registers) registers))
+      (λ t a. flush-keeps (flushing (numbered s registers) registers) (flushing-sound (from 1 (s .version)) t a))
       (λ t a. fits (ackAnswer (numbered s registers) registers .session) known (acknowledged-access (s .suspended) (argument 0 registers) (s .events) access) window marks counts)
       (marked-served (from 2 (s .version)) erasedMark refl)
       (λ n t a. absurd (false≢true (passed t s registers false Access false a .knows)))
 
   -- a refusal for an argument
-  broken-keeps : (code n : ℕ) → Keeps (commandAt n .whenBroken code registers (lent (numbered s registers) flash memory))
+  broken-keeps : (code n : ℕ) → Keeps (commandAt n .whenBroken code registers (lent (numbered s registers) flash worn memory))
   broken-keeps code =
-      each-command (λ (_ : ℕ) (c : Command). Keeps (c .whenBroken code registers (lent (numbered s registers) flash memory)))
+      each-command (λ (_ : ℕ) (c : Command). Keeps (c .whenBroken code registers (lent (numbered s registers) flash worn memory)))
       numbered-keeps numbered-keeps numbered-keeps drop-keeps numbered-keeps drop-keeps numbered-keeps numbered-keeps numbered-keeps numbered-keeps (λ _. numbered-keeps)
 
 pub command-keeps : CommandKeeps
 command-keeps setup registers m e =
-    let same = numbered-keeps setup (m .session) registers (m .flash) (m .memory) e in
-    each-answer (Keeps setup (m .session) registers (m .flash) (m .memory) e) setup registers m
-    (served-keeps setup (m .session) registers (m .flash) (m .memory) e (commandOf registers) (soundIn setup m))
-    (λ code. broken-keeps setup (m .session) registers (m .flash) (m .memory) e code (commandOf registers)) (λ code. same) (λ code. e)
+    let same = numbered-keeps setup (m .session) registers (m .flash) (m .worn) (m .memory) e in
+    each-answer (Keeps setup (m .session) registers (m .flash) (m .worn) (m .memory) e) setup registers m
+    (served-keeps setup (m .session) registers (m .flash) (m .worn) (m .memory) e (commandOf registers) (soundIn setup m))
+    (λ code. broken-keeps setup (m .session) registers (m .flash) (m .worn) (m .memory) e code (commandOf registers)) (λ code. same) (λ code. e)
 
 pub list-keeps : ListKeeps
 list-keeps setup list m e =
-    list-left (λ (t : Session). soundAt setup (length (m .flash)) (length (m .memory)) t ≡ true) setup list m e
+    list-left (λ (t : Session). soundAt setup (length (m .flash)) (length (m .worn)) (length (m .memory)) t ≡ true) setup list m e
     (λ a.
     let s = m .session in
-    let z = measured setup (length (m .flash)) (length (m .memory)) s e in
+    let z = measured setup (length (m .flash)) (length (m .worn)) (length (m .memory)) s e in
     let t = taken (soundIn setup m) list s Marked refl a in
     let write = write-is (s .window) (t .0 .writes) in
-    refitted-at setup (length (m .flash)) (length (m .memory)) s (withMarks (markPairs (pairsOf list) (s .marks)) s) e (z .fits .known) (z .fits .access) (z .fits .window)
+    refitted-at setup (length (m .flash)) (length (m .worn)) (length (m .memory)) s (withMarks (markPairs (pairsOf list) (s .marks)) s) e (z .fits .known) (z .fits .access) (z .fits .window)
     (rw write (list-sound (s .size) 0 (pairsOf list) (s .marks) (t .1) (rw write at (z .fits .marks)))) refl)
 
 pub access-keeps : AccessKeeps
-access-keeps setup flash memory s e =
-    let sounds = measured setup flash memory s e .sound in (
-      sound-with setup flash memory s (suspended s .session) e (suspended-sound flash memory s sounds),
-      sound-with setup flash memory s (resumed s .session) e (resumed-sound flash memory s sounds),
-      sound-with setup flash memory s (resumedChanged s .session) e (changed-sound flash memory s sounds),
+access-keeps setup flash worn memory s e =
+    let sounds = measured setup flash worn memory s e .sound in (
+      sound-with setup flash worn memory s (suspended s .session) e (suspended-sound flash worn memory s sounds),
+      sound-with setup flash worn memory s (resumed s .session) e (resumed-sound flash worn memory s sounds),
+      sound-with setup flash worn memory s (resumedChanged s .session) e (changed-sound flash worn memory s sounds),
     )
 
 pub fresh-sound : FreshSound
 unfolding soundAt sound sessionSound
-fresh-sound setup flash memory sizes most = rw (sizes, le-leb _ _ most)
+fresh-sound setup flash worn memory sizes most = rw (sizes, le-leb _ _ most)
 
 -- a command that is not refused with SYSTEM_ERROR is sent to a sound session
 pub sounds-unless : (setup : Setup) (registers : List ℕ) (m : Machine) → (reasonIn setup registers m ≡ System → ⊥) → soundIn setup m ≡ true
@@ -193,18 +231,9 @@ sounds-unless setup registers m fine =
 pub flush-sound : FlushSound
 unfolding commandAt
 flush-sound setup registers m fine =
-    let s = m .session in
-    let flash = m .flash in
-    let memory = m .memory in
-    let sounds = sounds-unless setup registers m fine in
-    let numbered-sound = measured setup (length flash) (length memory) (numbered s registers) (numbered-keeps setup s registers flash memory sounds) .sound in (
-      numbered-sound,
+    let sounds = sounds-unless setup registers m fine in (
+      numbered-sound setup (m .session) registers (m .flash) (m .worn) (m .memory) sounds,
       λ c a.
-          let p = passed (soundIn setup m) s registers (from 1 (s .version)) WriteWindow (flushMarks s registers && not (blocksNamed s registers .inside)) (ap (λ (n : ℕ). reasonOf (commandAt n) (soundIn setup m) registers m) (sym c) ∙ a) in
-          chosen (λ (t : Session). sound (length flash) (length memory) t ≡ true) (flushMarks s registers) (marked dirty (numbered s registers) registers) (numbered s registers)
-          (λ adds.
-          measured setup (length flash) (length memory) (marked dirty (numbered s registers) registers)
-          (marked-keeps setup s registers flash memory sounds dirty refl (write-is (s .window) (not-false (isWrite (s .window)) (p .windowed))) (not-false (blocksNamed s registers .inside) (rw adds at (p .argued))))
-          .sound)
-          (λ _. numbered-sound),
+          flushing-sound setup (m .session) registers (m .flash) (m .worn) (m .memory) sounds (from 1 (m .session .version)) (soundIn setup m)
+          (ap (λ (n : ℕ). reasonOf (commandAt n) (soundIn setup m) registers m) (sym c) ∙ a),
     )

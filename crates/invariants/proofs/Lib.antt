@@ -12,3 +12,4 @@ pub mod Pending
 pub mod Refused
 pub mod Runs
 pub mod Succeeding
+pub mod Reach

@@ -8,14 +8,17 @@ use native.Mathlib.Nat.{le-trans}
 use native.Mathlib.Omega.{arith}
 use lib.Dec.{leb, ltb, eqb}
 use lib.ListN.{length, getD, replicate}
-use borrow.Author.Tests.{not-false}
+use borrow.Author.Tests.{not-false, eqb-true}
+use Rattle.units.specs.Units.{roundUp}
+use Rattle.units.proofs.Cases.{decided}
 use Rattle.buffers.specs.Ranges.{replace}
 use Rattle.session.specs.declared.Session.{Session}
+use Rattle.session.specs.declared.Window.{Window}
 use Rattle.session.specs.declared.Window.the-variants.{Read, Write}
 use Rattle.session.specs.Events.{controlLost, setBits, clearBits}
-use Rattle.session.specs.Machine.{Setup, Machine}
+use Rattle.session.specs.Machine.{Setup, Machine, holding}
 use Rattle.session.specs.Marks.{dirty}
-use Rattle.session.specs.Record.{clean, withAccess, withMarks}
+use Rattle.session.specs.Record.{clean, withAccess, withMarks, withWindow, dropWindow}
 use Rattle.session.proofs.Answers.{either-way}
 use Rattle.soundness.specs.Soundness.{soundIn}
 use Rattle.refusals.specs.declared.BlockRange.{BlockRange}
@@ -25,10 +28,13 @@ use Rattle.refusals.specs.Refusals.{blocksNamed, flushMarks, reasonFor}
 use Rattle.refusals.proofs.Accepting.{passed, named-within}
 use Rattle.registers.specs.Registers.{commandOf, number}
 use Rattle.marklist.proofs.Reaching.{placed}
-use Rattle.mailbox.specs.Commands.{Outcome, numbered, numberedIn, marked}
+use Rattle.flush.specs.Window.{flushWhole}
+use Rattle.mailbox.specs.Commands.{Outcome, numbered, numberedIn, marked, sizeFor, hint, created, closed, flushing}
 use Rattle.mailbox.specs.Table.{Command, from}
 use Rattle.mailbox.specs.Mediator.{commandAt, reasonOf, reasonIn, mediate}
+use Rattle.mailbox.proofs.Ends.{codeOf, close-ends, flush-ends, open-ends, opened-code}
 use Rattle.mailbox.proofs.Mediating.{carried, each-command, each-answer, call-fits}
+use Rattle.invariants.specs.Codes.{isCreate}
 use Rattle.invariants.specs.Pending.{drops}
 use Rattle.invariants.specs.Marks.{isNamed, MarksAsSaid, SameWindow, SameMarks, MarksStay, AccessStays, NoWindow, WindowAsSaid}
 use Rattle.invariants.proofs.Kept.{sounds-unless}
@@ -126,26 +132,79 @@ access-stays s =
     )
 
 -- ---- the window
-flushing-window : (s : Session) (registers : List ℕ) (adds : Bool)
-    → SameWindow s (withMarks clean (cond adds (marked dirty (numbered s registers) registers) (numbered s registers)))
-flushing-window s registers true = record { window = refl; first = refl; size = refl }
-flushing-window s registers false = record { window = refl; first = refl; size = refl }
+flushing-window : (s : Session) (registers marks : List ℕ) (adds : Bool)
+    → SameWindow s (withMarks marks (cond adds (marked dirty (numbered s registers) registers) (numbered s registers)))
+flushing-window s registers marks true = record { window = refl; first = refl; size = refl }
+flushing-window s registers marks false = record { window = refl; first = refl; size = refl }
+
+-- no window, and one of this kind at the block that a create names
+unwindowed : (s : Session) → NoWindow (dropWindow s)
+unwindowed s = record { window = refl; first = refl; size = refl }
+
+three-one : _≡_ {A = ℕ} 3 1 → ⊥
+three-one q = omega arith
+
+one-three : _≡_ {A = ℕ} 1 3 → ⊥
+one-three q = omega arith
 
 module _ (setup : Setup) (registers : List ℕ) (m : Machine) (a : reasonIn setup registers m ≡ Accepted) where
-  -- what holds of the session that the row of a code leaves
-  by-row : (P : Session → Type 0) (n : ℕ) → commandOf registers ≡ n → P (commandAt n .leaves setup registers (numberedIn registers m) .machine .session)
-      → P (mediate setup registers m .machine .session)
-  by-row P n c p = subst (λ (o : Outcome). P (o .machine .session)) (sym (carried setup registers m n c a)) p
+  -- what holds of what the row of a code leaves
+  by-row : (P : Outcome → Type 0) (n : ℕ) → commandOf registers ≡ n → P (commandAt n .leaves setup registers (numberedIn registers m))
+      → P (mediate setup registers m)
+  by-row P n c p = subst P (sym (carried setup registers m n c a)) p
+
+  -- what holds of the session with a code, and of the session with another code nothing is asked
+  abbrev With : ℕ → (Session → Type 0) → Outcome → Type 0
+  With code P o = codeOf o ≡ code → P (o .machine .session)
+
+  close-window : (code : ℕ) (P : Session → Type 0) → (3 ≡ code → P (withMarks (flushWhole (numberedIn registers m) .marks) (numbered (m .session) registers)))
+      → (1 ≡ code → P (dropWindow (numbered (m .session) registers))) → With code P (closed registers (numberedIn registers m))
+  close-window code P failed through = close-ends (With code P) registers (numberedIn registers m) (λ _. failed) (λ _. through)
+
+  -- the session of a create that opens its window
+  abbrev newWindow : Window → Session
+  newWindow w =
+      withWindow w (number 2 0 registers)
+      (sizeFor (roundUp (length (m .flash))) (roundUp (length (m .memory))) (number 2 0 registers) (hint (m .session) registers)) (numbered (m .session) registers)
+
+  create-window : (code : ℕ) (P : Session → Type 0) (w : Window) → (3 ≡ code → P (dropWindow (numbered (m .session) registers))) → (1 ≡ code → P (newWindow w))
+      → With code P (created w setup registers (numberedIn registers m))
+  create-window code P w failed through =
+      let o = number 2 0 registers in
+      let z = sizeFor (roundUp (length (m .flash))) (roundUp (length (m .memory))) o (hint (m .session) registers) in
+      open-ends (With code P) registers (numberedIn registers m) w o z setup (λ _. failed)
+      (λ _ q. through (sym (opened-code w o z setup registers (numberedIn registers m)) ∙ q))
+
+-- a create of either kind
+create-either : (P : ℕ → Type 0) (code : ℕ) → isCreate code ≡ true → (code ≡ 4 → P 4) → (code ≡ 6 → P 6) → P code
+create-either P code c reads writes =
+    ⊎-elim
+    (λ (t : eqb code 4 ≡ true). let e = eqb-true code 4 t in subst P (sym e) (reads e))
+    (λ (t : eqb code 4 ≡ false). let e = eqb-true code 6 (sym (ap (λ (b : Bool). b || eqb code 6) t) ∙ c) in subst P (sym e) (writes e))
+    (decided (eqb code 4))
 
 pub window-as-said : WindowAsSaid
 unfolding commandAt
-window-as-said setup registers m a = (
-  ⊎-elim (λ c. by-row setup registers m a (SameWindow (m .session)) 7 c (record { window = refl; first = refl; size = refl }))
-      (⊎-elim
-      (λ c. by-row setup registers m a (SameWindow (m .session)) 8 c (flushing-window (m .session) registers (flushMarks (m .session) registers)))
-      (λ c. by-row setup registers m a (SameWindow (m .session)) 10 c (record { window = refl; first = refl; size = refl }))),
-  ⊎-elim (λ c. by-row setup registers m a NoWindow 1 c (record { window = refl; first = refl; size = refl }))
-      (λ c. by-row setup registers m a NoWindow 5 c (record { window = refl; first = refl; size = refl })),
-  λ c. by-row setup registers m a (λ (t : Session). (t .window ≡ Read) × (t .first ≡ number 2 0 registers)) 4 c (refl, refl),
-  λ c. by-row setup registers m a (λ (t : Session). (t .window ≡ Write) × (t .first ≡ number 2 0 registers)) 6 c (refl, refl),
-)
+window-as-said setup registers m a =
+    let same : Outcome → Type 0 = λ o. SameWindow (m .session) (o .machine .session) in
+    let flushes = holding (flushing (numbered (m .session) registers) registers) m in
+    let opens : Window → Session → Type 0 = λ w t. (t .window ≡ w) × (t .first ≡ number 2 0 registers) in (
+      ⊎-elim (λ c. by-row setup registers m a same 7 c (record { window = refl; first = refl; size = refl }))
+          (⊎-elim
+          (λ c.
+          by-row setup registers m a same 8 c
+          (flush-ends same registers flushes (λ _. flushing-window (m .session) registers (flushWhole flushes .marks) (flushMarks (m .session) registers))
+          (λ _. flushing-window (m .session) registers clean (flushMarks (m .session) registers))))
+          (λ c. by-row setup registers m a same 10 c (record { window = refl; first = refl; size = refl }))),
+      λ c. by-row setup registers m a (λ (o : Outcome). NoWindow (o .machine .session)) 1 c (unwindowed _),
+      λ c. by-row setup registers m a (With setup registers m a 1 NoWindow) 5 c (close-window setup registers m a 1 NoWindow (λ q. absurd (three-one q)) (λ _. unwindowed _)),
+      λ c.
+          by-row setup registers m a (With setup registers m a 3 (SameWindow (m .session))) 5 c
+          (close-window setup registers m a 3 (SameWindow (m .session)) (λ _. record { window = refl; first = refl; size = refl }) (λ q. absurd (one-three q))),
+      λ c. by-row setup registers m a (With setup registers m a 1 (opens Read)) 4 c (create-window setup registers m a 1 (opens Read) Read (λ q. absurd (three-one q)) (λ _. (refl, refl))),
+      λ c. by-row setup registers m a (With setup registers m a 1 (opens Write)) 6 c (create-window setup registers m a 1 (opens Write) Write (λ q. absurd (three-one q)) (λ _. (refl, refl))),
+      λ c.
+          create-either (λ _. With setup registers m a 3 NoWindow (mediate setup registers m)) (commandOf registers) c
+          (λ e. by-row setup registers m a (With setup registers m a 3 NoWindow) 4 e (create-window setup registers m a 3 NoWindow Read (λ _. unwindowed _) (λ q. absurd (one-three q))))
+          (λ e. by-row setup registers m a (With setup registers m a 3 NoWindow) 6 e (create-window setup registers m a 3 NoWindow Write (λ _. unwindowed _) (λ q. absurd (one-three q)))),
+    )

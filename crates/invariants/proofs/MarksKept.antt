@@ -1,7 +1,7 @@
--- Marks stay sound where some blocks of the window get one that is sound.
+-- Marks stay sound where some blocks of the window get one that is sound, and where the first or the last of them are left out.
 use mathlib.Core.Path.{_≡_, refl, sym, ap, _∙_}
 use mathlib.Core.Bool.{true}
-use mathlib.Core.List.{List, [], _∷_, _++_}
+use mathlib.Core.List.{List, [], _∷_, _++_, append-nil}
 use Prim.Native.Nat.{ℕ, zero, suc, _+_, _≤_}
 use native.Mathlib.Omega.{arith}
 use native.Mathlib.Nat.{not-suc-le-zero, le-of-suc-le-suc}
@@ -12,6 +12,7 @@ use Rattle.units.proofs.Cases.{both}
 use Rattle.buffers.specs.Ranges.{replace}
 use Rattle.session.specs.Marks.{dirty}
 use Rattle.soundness.specs.Soundness.{marksSound}
+use Rattle.soundness.proofs.SoundMarks.{clean-sound}
 use Rattle.marklist.specs.declared.ListAnswer.the-variants.{Marked}
 use Rattle.marklist.specs.MarkList.{Pair, firstOutside, markPairs}
 use Rattle.marklist.proofs.InPairs.{inside-front}
@@ -51,3 +52,21 @@ list-sound n place [] ms e h = h
 list-sound n place (pair ∷ pairs) ms e h =
     let f = inside-front n place pair pairs e in
     list-sound n (suc place) pairs (replace (pair .block) (replicate (pair .count) dirty) ms) (f .1) (marked-sound dirty refl n (pair .block) (pair .count) ms (f .0) h)
+
+-- the first so many
+pub take-sound : (k n : ℕ) (ms : List ℕ) → marksSound n ms ≡ true → marksSound n (take k ms) ≡ true
+take-sound zero n ms e = refl
+take-sound (suc k) n [] e = refl
+take-sound (suc k) zero (m ∷ ms) e =
+    let p = both (leb m 0) (marksSound zero ms) e in
+    rw (p .0) (take-sound k zero ms (p .1))
+take-sound (suc k) (suc n) (m ∷ ms) e =
+    let p = both (leb m 2) (marksSound n ms) e in
+    rw (p .0) (take-sound k n ms (p .1))
+
+-- and those behind them, which are cleared
+pub cleared-sound : (k n : ℕ) (ms : List ℕ) → marksSound n ms ≡ true → marksSound n (replicate k 0 ++ drop k ms) ≡ true
+cleared-sound zero n ms e = e
+cleared-sound (suc k) n [] e = ap (marksSound n) (append-nil (replicate (suc k) 0)) ∙ clean-sound n (suc k)
+cleared-sound (suc k) zero (m ∷ ms) e = cleared-sound k zero ms (both (leb m 0) (marksSound zero ms) e .1)
+cleared-sound (suc k) (suc n) (m ∷ ms) e = cleared-sound k n ms (both (leb m 2) (marksSound n ms) e .1)

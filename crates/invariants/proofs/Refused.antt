@@ -8,7 +8,7 @@ use Rattle.units.proofs.Cases.{decided}
 use Rattle.session.specs.Machine.{Setup, Machine}
 use Rattle.refusals.specs.declared.Reason.the-variants.{System, Argument}
 use Rattle.registers.specs.Registers.{commandOf}
-use Rattle.mailbox.specs.Commands.{Outcome, numberedIn, refused, closing}
+use Rattle.mailbox.specs.Commands.{Outcome, numberedIn, refused, closingFirst}
 use Rattle.mailbox.specs.Mediator.{commandIn, reasonIn, answerTo, mediate}
 use Rattle.mailbox.proofs.Mediating.{mediate-as}
 use Rattle.mailbox.proofs.Refusing.{refused-as}
@@ -22,11 +22,11 @@ module _ (setup : Setup) (registers : List ℕ) (m : Machine) where
   system e = mediate-as setup registers m System e
 
   -- a refusal for its argument
-  broken-left : {creates : Bool} → isCreate (commandOf registers) ≡ creates → commandIn registers .whenBroken ≡ cond creates closing refused
-  broken-left e = codes-as-said (commandOf registers) .5 ∙ ap (λ (b : Bool). cond b closing refused) e
+  broken-left : {creates : Bool} → isCreate (commandOf registers) ≡ creates → commandIn registers .whenBroken ≡ cond creates closingFirst refused
+  broken-left e = codes-as-said (commandOf registers) .5 ∙ ap (λ (b : Bool). cond b closingFirst refused) e
 
   broken-create : isCreate (commandOf registers) ≡ true → reasonIn setup registers m ≡ Argument
-      → mediate setup registers m ≡ closing 2 registers (numberedIn registers m)
+      → mediate setup registers m ≡ closingFirst 2 registers (numberedIn registers m)
   unfolding answerTo
   broken-create c e =
       mediate-as setup registers m Argument e ∙ ap (λ (f : ℕ → List ℕ → Machine → Outcome). f 2 registers (numberedIn registers m)) (broken-left c)

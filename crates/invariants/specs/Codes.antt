@@ -7,7 +7,7 @@ use Prim.Native.Nat.{ℕ}
 use lib.Dec.{leb, eqb}
 use Rattle.session.specs.declared.Session.{Session}
 use Rattle.refusals.specs.Refusals.{neverBroken, noVersion, outsideFlash, undefinedFlags, outsideWindow, flushOutside, needsNumber, needsAccess, needsWindow}
-use Rattle.mailbox.specs.Commands.{refused, closing}
+use Rattle.mailbox.specs.Commands.{refused, closingFirst}
 use Rattle.mailbox.specs.Mediator.{commandAt}
 
 -- "Version 0 knows 1, 2 and 9; version 1 knows 1 to 9; version 2 knows 1 to 10"
@@ -29,7 +29,8 @@ ruleOf code =
 
 -- the claim, of every code: which versions know it, "the sequence equals the previous one, not GET_INFO" (2), "suspended and not GET_INFO or ACK"
 -- (9), "MARK_DIRTY, ERASE or FLUSH" (7, 10, 8) "without an active write window", its argument rule, and what is left where
--- that is broken: "a create refused for its argument has already closed and flushed the old window"
+-- that is broken: "a create refused for its argument has already closed and flushed the old window", and "WRITE_ERROR (3)" comes "in a create before it"
+-- (02, Ticket 8)
 abbrev pub CodesAsSaid : Type 0
 CodesAsSaid =
     (code : ℕ)
@@ -38,4 +39,4 @@ CodesAsSaid =
     × (needsAccess (commandAt code .needs) ≡ not (eqb code 2 || eqb code 9))
     × (needsWindow (commandAt code .needs) ≡ (eqb code 7 || (eqb code 8 || eqb code 10)))
     × (commandAt code .broken ≡ ruleOf code)
-    × (commandAt code .whenBroken ≡ cond (isCreate code) closing refused)
+    × (commandAt code .whenBroken ≡ cond (isCreate code) closingFirst refused)

@@ -1,16 +1,17 @@
 -- Demand 2's last sentence, said of every command: "The two window marks are carried out as it says: dirty blocks become the window's bytes,
 -- erased blocks become FF." Of the chip actions only the number is told. Proved in proofs/Demand2.antt.
 use mathlib.Core.Path.{_≡_}
-use mathlib.Core.Bool.{cond, _&&_, _||_}
-use mathlib.Core.List.{List}
+use mathlib.Core.Bool.{Bool, cond, not, _&&_, _||_}
+use mathlib.Core.List.{List, [], _∷_}
 use mathlib.Core.Option.{Option, none, some}
-use Prim.Native.Nat.{ℕ, _+_, _-_, _*_, _≤_, _<_}
+use Prim.Native.Nat.{ℕ, suc, _+_, _-_, _*_, _≤_, _<_}
 use lib.Dec.{leb, ltb, eqb}
 use lib.ListN.{length, getD}
 use Rattle.units.specs.Units.{toBytes, blockHolding}
 use Rattle.session.specs.declared.Session.{Session}
 use Rattle.session.specs.Machine.{Setup, Machine}
 use Rattle.session.specs.Marks.{dirty, erasedMark, marksOf}
+use Rattle.session.specs.Record.{withMarks}
 use Rattle.flush.specs.Window.{partEnd}
 use Rattle.refusals.specs.declared.Reason.{Reason}
 use Rattle.refusals.specs.declared.Reason.the-variants.{Accepted, System, Repeated, Unknown, Suspended, Windowless, Argument}
@@ -44,6 +45,21 @@ flushedFor Suspended s registers = none
 flushedFor Windowless s registers = none
 flushedFor Argument s registers = cond (isCreate (commandOf registers)) (atClose s) none
 
+-- ---- how far a flush comes
+
+-- "An erase of a worn block fails" (02, Ticket 8): a block with a mark is erased, and this block of the flash is worn
+abbrev pub failsAt : List ℕ → ℕ → ℕ → Bool
+failsAt worn block mark = not (eqb mark 0) && not (eqb (getD worn block 0) 0)
+
+-- "A flush stops at the first failure": of the marks of a window that begins at this block of the flash, those that are carried out
+abbrev pub reached : List ℕ → ℕ → List ℕ → List ℕ
+reached worn block [] = []
+reached worn block (mark ∷ marks) = cond (failsAt worn block mark) [] (mark ∷ reached worn (suc block) marks)
+
+-- the session with these marks alone
+abbrev pub reaching : List ℕ → Session → Session
+reaching worn s = withMarks (reached worn (s .first) (s .marks)) s
+
 -- ---- what becomes of the flash
 
 -- the mark of the block in which byte x of the flash lies: "one for each possible window block", and 0 outside the window
@@ -69,14 +85,14 @@ pub record CarriedOut (s : Session) (flash memory after : List ℕ) (actions : �
   pub number : actions ≡ 17 * marksOf dirty (s .marks) + marksOf erasedMark (s .marks)
   pub few : actions ≤ 1088
 
--- or nothing carried out: the flash is as it was, and the number "0 if it flushes nothing"
-abbrev pub Leaves : Option Session → List ℕ → List ℕ → List ℕ → ℕ → Type 0
-Leaves none flash memory after actions = (after ≡ flash) × (actions ≡ 0)
-Leaves (some s) flash memory after actions = CarriedOut s flash memory after actions
+-- what a flush carries out, or nothing carried out: the flash is as it was, and the number "0 if it flushes nothing"
+abbrev pub Leaves : Option Session → List ℕ → List ℕ → List ℕ → List ℕ → ℕ → Type 0
+Leaves none flash worn memory after actions = (after ≡ flash) × (actions ≡ 0)
+Leaves (some s) flash worn memory after actions = CarriedOut (reaching worn s) flash memory after actions
 
--- the claim, of every command: any content of the registers, any session and buffers, sound or not
+-- the claim, of every command: any content of the registers, any session, buffers and map, sound or not
 abbrev pub Demand2 : Type 0
 Demand2 =
     (setup : Setup) (registers : List ℕ) (m : Machine)
-    → Leaves (flushedFor (reasonIn setup registers m) (m .session) registers) (m .flash) (m .memory)
+    → Leaves (flushedFor (reasonIn setup registers m) (m .session) registers) (m .flash) (m .worn) (m .memory)
     (mediate setup registers m .machine .flash) (mediate setup registers m .actions)

@@ -8,7 +8,7 @@ use Rattle.session.specs.Machine.{Setup, Machine}
 use Rattle.soundness.specs.Soundness.{soundIn}
 use Rattle.refusals.specs.Refusals.{isPrevious}
 use Rattle.registers.specs.Registers.{commandOf, sequenceOf, argument}
-use Rattle.mailbox.specs.Commands.{numberedIn, closing}
+use Rattle.mailbox.specs.Commands.{numberedIn, closed}
 use Rattle.mailbox.specs.Mediator.{mediate}
 use Rattle.invariants.specs.Refused.{numberTaken}
 
@@ -24,12 +24,12 @@ pub record ReachesFlags (setup : Setup) (registers : List ℕ) (m : Machine) : T
 abbrev pub Allowed : ℕ → ℕ → Type 0
 Allowed version flags = (version < 2) ⊎ (flags ≤ 1)
 
--- "PARAM_ERROR for other values": 2, and nothing but the previous number is changed. With allowed flags the window is closed: `closing`,
--- of which `Demand2` has the flash and the chip actions
+-- "PARAM_ERROR for other values": 2, and nothing but the previous number is changed. With allowed flags the window is closed: `closed`,
+-- of which `Demand2` has the flash and the chip actions, and `WornAsSaid` what is left where an erase fails
 abbrev pub FlagsAsSaid : Type 0
 FlagsAsSaid =
     (setup : Setup) (registers : List ℕ) (m : Machine) → ReachesFlags setup registers m
-    → (Allowed (m .session .version) (argument 0 registers) → mediate setup registers m ≡ closing 1 registers (numberedIn registers m))
+    → (Allowed (m .session .version) (argument 0 registers) → mediate setup registers m ≡ closed registers (numberedIn registers m))
     × ((Allowed (m .session .version) (argument 0 registers) → ⊥) → mediate setup registers m ≡ numberTaken 2 registers m)
 
 -- "in the last check of 01's table": where an earlier check refuses, two that differ in their flags alone leave and answer the same

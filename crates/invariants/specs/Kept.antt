@@ -17,37 +17,37 @@ use Rattle.mailbox.specs.Commands.{numbered, flushing}
 use Rattle.mailbox.specs.Table.{flush}
 use Rattle.mailbox.specs.Mediator.{reasonIn, mediate}
 
--- "A fresh session" is sound wherever the sizes and B are
+-- "A fresh session" is sound wherever the sizes, the map's among them, and B are
 abbrev pub FreshSound : Type 0
 FreshSound =
-    (setup : Setup) (flash memory : ℕ) → sizesSound flash memory ≡ true → setup .lpc + roundUp memory ≤ 65536
-    → soundAt setup flash memory fresh ≡ true
+    (setup : Setup) (flash worn memory : ℕ) → sizesSound flash worn memory ≡ true → setup .lpc + roundUp memory ≤ 65536
+    → soundAt setup flash worn memory fresh ≡ true
 
 -- any content of the registers, refused or not
 abbrev pub CommandKeeps : Type 0
 CommandKeeps =
     (setup : Setup) (registers : List ℕ) (m : Machine) → soundIn setup m ≡ true
-    → soundAt setup (length (m .flash)) (length (m .memory)) (mediate setup registers m .machine .session) ≡ true
+    → soundAt setup (length (m .flash)) (length (m .worn)) (length (m .memory)) (mediate setup registers m .machine .session) ≡ true
 
 -- a list of marks in one call, refused or not (02, Ticket 4)
 abbrev pub ListKeeps : Type 0
 ListKeeps =
     (setup : Setup) (list : List ℕ) (m : Machine) → soundIn setup m ≡ true
-    → soundAt setup (length (m .flash)) (length (m .memory)) (listedIn setup list m .session) ≡ true
+    → soundAt setup (length (m .flash)) (length (m .worn)) (length (m .memory)) (listedIn setup list m .session) ≡ true
 
 -- suspend, resume, and "Resume 'with changed flash'"
 abbrev pub AccessKeeps : Type 0
 AccessKeeps =
-    (setup : Setup) (flash memory : ℕ) (s : Session) → soundAt setup flash memory s ≡ true
-    → (soundAt setup flash memory (suspended s .session) ≡ true)
-    × (soundAt setup flash memory (resumed s .session) ≡ true)
-    × (soundAt setup flash memory (resumedChanged s .session) ≡ true)
+    (setup : Setup) (flash worn memory : ℕ) (s : Session) → soundAt setup flash worn memory s ≡ true
+    → (soundAt setup flash worn memory (suspended s .session) ≡ true)
+    × (soundAt setup flash worn memory (resumed s .session) ≡ true)
+    × (soundAt setup flash worn memory (resumedChanged s .session) ≡ true)
 
 -- what a command flushes is sound, so that the flush always does its actions: the window that a close or a create closes, a create also where it is then
 -- refused for its argument, and that of an accepted FLUSH with its own marks
 abbrev pub FlushSound : Type 0
 FlushSound =
     (setup : Setup) (registers : List ℕ) (m : Machine) → (reasonIn setup registers m ≡ System → ⊥)
-    → (sound (length (m .flash)) (length (m .memory)) (numbered (m .session) registers) ≡ true)
+    → (sound (length (m .flash)) (length (m .worn)) (length (m .memory)) (numbered (m .session) registers) ≡ true)
     × (commandOf registers ≡ flush .code → reasonIn setup registers m ≡ Accepted
-    → sound (length (m .flash)) (length (m .memory)) (flushing (numbered (m .session) registers) registers) ≡ true)
+    → sound (length (m .flash)) (length (m .worn)) (length (m .memory)) (flushing (numbered (m .session) registers) registers) ≡ true)

@@ -9,3 +9,4 @@ pub mod Memory
 pub mod Pending
 pub mod Refused
 pub mod Runs
+pub mod Worn

@@ -1,7 +1,7 @@
 -- What every command, suspend and resume make of the window and of the marks, with the papers' own numbers: document 01, "Commands". How marks are dropped is
 -- said in Pending.antt, with their numbers. Proved in proofs/Marks.antt.
 use mathlib.Core.Path.{_≡_}
-use mathlib.Core.Bool.{Bool, false, cond, _&&_, _||_}
+use mathlib.Core.Bool.{Bool, true, false, cond, _&&_, _||_}
 use mathlib.Core.List.{List}
 use mathlib.Core.Logic.{_⊎_}
 use Prim.Native.Nat.{ℕ, _+_, _-_}
@@ -14,7 +14,8 @@ use Rattle.session.specs.Machine.{Setup, Machine}
 use Rattle.session.specs.Suspension.{suspended, resumed}
 use Rattle.refusals.specs.declared.Reason.the-variants.{Accepted}
 use Rattle.registers.specs.Registers.{commandOf, number}
-use Rattle.mailbox.specs.Mediator.{reasonIn, mediate}
+use Rattle.mailbox.specs.Mediator.{reasonIn, mediate, response}
+use Rattle.invariants.specs.Codes.{isCreate}
 use Rattle.invariants.specs.Pending.{drops}
 
 -- the named blocks: "version 1: flash block a (0-1) and L bytes (2-5); L is rounded up to k blocks", counted from the window's first block; "Version 2: window
@@ -64,15 +65,19 @@ pub record NoWindow (s : Session) : Type 0 where
   pub first : s .first ≡ 0
   pub size : s .size ≡ 0
 
--- the window after a command that no check refuses: MARK_DIRTY (7), ERASE (10) and FLUSH (8), "the window stays", keep it; RESET (1) and CLOSE_WINDOW (5) drop
--- it; a create has opened one for reading (4) or writing (6) at flash block o (0-1)
+-- the window after a command that no check refuses: MARK_DIRTY (7), ERASE (10) and FLUSH (8), "the window stays", keep it; RESET (1) drops it, and so does
+-- CLOSE_WINDOW (5) that succeeds; a create that succeeds has opened one for reading (4) or writing (6) at flash block o (0-1). With WRITE_ERROR (3) "the window
+-- stays active", but a create "leaves no window" (02, Ticket 8)
 abbrev pub WindowAsSaid : Type 0
 WindowAsSaid =
     (setup : Setup) (registers : List ℕ) (m : Machine) → reasonIn setup registers m ≡ Accepted
     → ((commandOf registers ≡ 7) ⊎ ((commandOf registers ≡ 8) ⊎ (commandOf registers ≡ 10))
     → SameWindow (m .session) (mediate setup registers m .machine .session))
-    × ((commandOf registers ≡ 1) ⊎ (commandOf registers ≡ 5) → NoWindow (mediate setup registers m .machine .session))
-    × (commandOf registers ≡ 4
+    × (commandOf registers ≡ 1 → NoWindow (mediate setup registers m .machine .session))
+    × (commandOf registers ≡ 5 → response setup registers m ≡ 1 → NoWindow (mediate setup registers m .machine .session))
+    × (commandOf registers ≡ 5 → response setup registers m ≡ 3 → SameWindow (m .session) (mediate setup registers m .machine .session))
+    × (commandOf registers ≡ 4 → response setup registers m ≡ 1
     → (mediate setup registers m .machine .session .window ≡ Read) × (mediate setup registers m .machine .session .first ≡ number 2 0 registers))
-    × (commandOf registers ≡ 6
+    × (commandOf registers ≡ 6 → response setup registers m ≡ 1
     → (mediate setup registers m .machine .session .window ≡ Write) × (mediate setup registers m .machine .session .first ≡ number 2 0 registers))
+    × (isCreate (commandOf registers) ≡ true → response setup registers m ≡ 3 → NoWindow (mediate setup registers m .machine .session))

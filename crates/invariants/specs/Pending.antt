@@ -20,7 +20,7 @@ use Rattle.refusals.specs.declared.Reason.the-variants.{Accepted, System, Argum
 use Rattle.registers.specs.Registers.{commandOf, number}
 use Rattle.marklist.specs.MarkList.{listCode, listedIn}
 use Rattle.mailbox.specs.Commands.{flushing}
-use Rattle.mailbox.specs.Mediator.{reasonIn, mediate}
+use Rattle.mailbox.specs.Mediator.{reasonIn, mediate, response}
 use Rattle.mailbox.specs.Runs.{Call, calledAll}
 use Rattle.invariants.specs.Codes.{isCreate}
 
@@ -62,12 +62,13 @@ pub record Unmarked (s : Session) : Type 0 where
 abbrev pub drops : ℕ → Bool
 drops code = eqb code 1 || (isCreate code || (eqb code 5 || eqb code 8))
 
--- where no check refuses them; a create also where it is refused for its argument; resume with changed flash, of any session, sound or not; and in a fresh
--- session there are none
+-- where no check refuses them, FLUSH and CLOSE_WINDOW where they do not answer WRITE_ERROR (3) either (02, Ticket 8); a create also where it is refused for its
+-- argument; resume with changed flash, of any session, sound or not; and in a fresh session there are none
 abbrev pub DroppedUnmarked : Type 0
 DroppedUnmarked =
     ((setup : Setup) (registers : List ℕ) (m : Machine)
-    → (reasonIn setup registers m ≡ Accepted → drops (commandOf registers) ≡ true → Unmarked (mediate setup registers m .machine .session))
+    → (reasonIn setup registers m ≡ Accepted → drops (commandOf registers) ≡ true
+    → (response setup registers m ≡ 3 → isCreate (commandOf registers) ≡ true) → Unmarked (mediate setup registers m .machine .session))
     × (reasonIn setup registers m ≡ Argument → isCreate (commandOf registers) ≡ true → Unmarked (mediate setup registers m .machine .session)))
     × ((s : Session) → s .suspended ≡ true → Unmarked (resumedChanged s .session))
     × Unmarked fresh
@@ -97,10 +98,12 @@ abbrev pub Tells : Setup → List ℕ → Machine → Type 0
 Tells setup registers m = pendingIn (m .session) ≡ Marked (markedBlocks (m .session .marks)) (mediate setup registers m .actions)
 
 -- to a FLUSH (8) "that adds no mark", among them every one of version 2 and with L = 0 (2-5), and where L names only blocks that are dirty already; to a
--- CLOSE_WINDOW (5) and a create, which close the window; and to a create that is refused for its argument
+-- CLOSE_WINDOW (5) and a create, which close the window; and to a create that is refused for its argument. Each where it does not answer WRITE_ERROR (3):
+-- "Ticket 2's lamp counts as if no block were worn" (02, Ticket 8)
 abbrev pub PendingCarried : Type 0
 PendingCarried =
     (setup : Setup) (registers : List ℕ) (m : Machine)
+    → (response setup registers m ≡ 3 → ⊥)
     → (reasonIn setup registers m ≡ Accepted → commandOf registers ≡ 8 → flushing (m .session) registers .marks ≡ m .session .marks → Tells setup registers m)
     × (reasonIn setup registers m ≡ Accepted → commandOf registers ≡ 8 → (m .session .version ≡ 2) ⊎ (number 4 2 registers ≡ 0) → Tells setup registers m)
     × (reasonIn setup registers m ≡ Accepted → (isCreate (commandOf registers) || eqb (commandOf registers) 5) ≡ true → Tells setup registers m)

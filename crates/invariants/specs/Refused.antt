@@ -1,5 +1,6 @@
 -- What a refusal leaves: document 01, below the table of "Registers". It is said of the machine and of each register, and not by the mediator's own `refused`;
--- the response codes are those of `codeFor`, and what a create that is refused for its argument leaves is `closing`. Proved in proofs/Refused.antt.
+-- the response codes are those of `codeFor`, and what a create that is refused for its argument leaves is `closingFirst`, of which
+-- `WornAsSaid` has the response. Proved in proofs/Refused.antt.
 use mathlib.Core.Path.{_≡_}
 use mathlib.Core.Bool.{true}
 use mathlib.Core.List.{List, [], _∷_, _++_}
@@ -12,7 +13,7 @@ use Rattle.session.specs.Record.{withPrevious}
 use Rattle.refusals.specs.declared.Reason.the-variants.{Accepted, System, Argument}
 use Rattle.refusals.specs.Refusals.{codeFor}
 use Rattle.registers.specs.Registers.{commandOf, sequenceOf}
-use Rattle.mailbox.specs.Commands.{Outcome, numberedIn, closing}
+use Rattle.mailbox.specs.Commands.{Outcome, numberedIn, closingFirst}
 use Rattle.mailbox.specs.Mediator.{reasonIn, mediate}
 use Rattle.invariants.specs.Codes.{isCreate}
 
@@ -21,7 +22,7 @@ use Rattle.invariants.specs.Codes.{isCreate}
 abbrev pub refusal : ℕ → Session → List ℕ → Machine → Outcome
 refusal code s registers m =
     record {
-      machine = lent s (m .flash) (m .memory);
+      machine = lent s (m .flash) (m .worn) (m .memory);
       registers = commandOf registers ∷ sequenceOf registers ∷ (replicate 11 0 ++ (code ∷ getD registers 14 0 ∷ m .session .events ∷ []));
       actions = 0;
     }
@@ -37,7 +38,7 @@ RefusalsAsSaid =
     (setup : Setup) (registers : List ℕ) (m : Machine)
     → (reasonIn setup registers m ≡ System → mediate setup registers m ≡ refusal 4 (m .session) registers m)
     × (isCreate (commandOf registers) ≡ true → reasonIn setup registers m ≡ Argument
-    → mediate setup registers m ≡ closing 2 registers (numberedIn registers m))
+    → mediate setup registers m ≡ closingFirst 2 registers (numberedIn registers m))
     × ((reasonIn setup registers m ≡ Accepted → ⊥) → (reasonIn setup registers m ≡ System → ⊥)
     → (isCreate (commandOf registers) ≡ true → reasonIn setup registers m ≡ Argument → ⊥)
     → mediate setup registers m ≡ numberTaken (codeFor (m .session .version) (reasonIn setup registers m)) registers m)

@@ -1,5 +1,5 @@
--- What a run of any calls keeps: commands with any registers, lists of marks in one call, suspends, resumes of both kinds, steps, host writes, and what
--- another writes in the flash. A single call is a run of one. Proved in proofs/Runs.antt.
+-- What a run of any calls keeps: commands with any registers, lists of marks in one call, suspends, resumes of both kinds, steps, host writes, what another
+-- writes in the flash, and what the driver writes in its map of worn blocks. A single call is a run of one. Proved in proofs/Runs.antt.
 use mathlib.Core.Path.{_≡_}
 use mathlib.Core.Bool.{true}
 use mathlib.Core.List.{List}
@@ -19,11 +19,12 @@ use Rattle.mailbox.specs.Runs.{Call, calledAll}
 
 -- ---- on any session, sound or not
 
--- both buffers are lent: they keep their lengths
+-- both buffers and the map are lent: they keep their lengths
 abbrev pub RunLengths : Type 0
 RunLengths =
     (setup : Setup) (calls : List Call) (m : Machine)
     → (length (calledAll setup calls m .flash) ≡ length (m .flash)) × (length (calledAll setup calls m .memory) ≡ length (m .memory))
+    × (length (calledAll setup calls m .worn) ≡ length (m .worn))
 
 -- no call changes an event bit other than 0x01, 0x02 and 0x40: those of BC, which are the others, are the same
 abbrev pub RunEvents : Type 0
@@ -54,6 +55,6 @@ pub record EventsTell (m : Machine) : Type 0 where
 
 abbrev pub RunFromFresh : Type 0
 RunFromFresh =
-    (setup : Setup) (flash memory : List ℕ) → sizesSound (length flash) (length memory) ≡ true → setup .lpc + roundUp (length memory) ≤ 65536
+    (setup : Setup) (flash worn memory : List ℕ) → sizesSound (length flash) (length worn) (length memory) ≡ true → setup .lpc + roundUp (length memory) ≤ 65536
     → (calls : List Call)
-    → (soundIn setup (calledAll setup calls (lent fresh flash memory)) ≡ true) × EventsTell (calledAll setup calls (lent fresh flash memory))
+    → (soundIn setup (calledAll setup calls (lent fresh flash worn memory)) ≡ true) × EventsTell (calledAll setup calls (lent fresh flash worn memory))

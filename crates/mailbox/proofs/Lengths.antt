@@ -1,4 +1,4 @@
--- The window memory is lent: every command, refused or not, on any session, leaves it as long as it was.
+-- The window memory and the map are lent: every command, refused or not, on any session, leaves the one as long as it was, and the other as it was.
 use mathlib.Core.Path.{_≡_, refl}
 use mathlib.Core.Bool.{not}
 use mathlib.Core.List.{List}
@@ -8,14 +8,13 @@ use lib.Dec.{leb}
 use lib.ListN.{length, drop, length-take}
 use borrow.Author.Tests.{leb-false, not-false}
 use Rattle.units.specs.Units.{toBytes, roundUp}
-use Rattle.units.proofs.Cases.{chosen}
 use Rattle.buffers.specs.Ranges.{range}
 use Rattle.buffers.proofs.Replace.{replace-length}
 use Rattle.chip.proofs.Laws.{erased-length}
 use Rattle.session.specs.declared.Session.{Session}
 use Rattle.session.specs.declared.Window.{Window}
 use Rattle.session.specs.declared.Window.the-variants.{Read, Write}
-use Rattle.session.specs.Machine.{Setup, Machine, lent}
+use Rattle.session.specs.Machine.{Setup, Machine, lent, holding}
 use Rattle.soundness.specs.Soundness.{soundIn}
 use Rattle.soundness.proofs.Facts.{measured}
 use Rattle.flush.specs.Window.{flushWhole}
@@ -24,10 +23,11 @@ use Rattle.refusals.specs.declared.Needs.the-variants.{Access, WriteWindow}
 use Rattle.refusals.specs.Refusals.{blocksNamed}
 use Rattle.refusals.proofs.Accepting.{passed, named-within}
 use Rattle.registers.specs.Registers.{commandOf, number}
-use Rattle.mailbox.specs.Commands.{Outcome, numbered, sizeFor, hint, closing, opened, stopped, flushing, flushedThrough}
+use Rattle.mailbox.specs.Commands.{Outcome, numbered, numberedIn, sizeFor, hint, created, flushing}
 use Rattle.mailbox.specs.Table.{Command, create, createReadWindow, closeWindow, createWriteWindow, flush, erase, from}
 use Rattle.mailbox.specs.Mediator.{commandAt, reasonOf, mediate}
 use Rattle.mailbox.proofs.Front.{size-fits}
+use Rattle.mailbox.proofs.Ends.{close-ends, flush-ends, open-ends}
 use Rattle.mailbox.proofs.Mediating.{each-command, each-answer}
 
 -- a range has at most the bytes that are asked for
@@ -54,7 +54,7 @@ module _ (setup : Setup) (s : Session) (registers flash worn memory : List ℕ) 
       let fits = size-fits (roundUp (length flash)) (roundUp (length memory)) o (hint s registers) (leb-false (roundUp (length flash)) o (p .argued)) in
       let next = lent (numbered s registers) flash worn memory in
       let flushed = flushWhole next .flash in
-      chosen Long (flushWhole next .failed) (closing 3 registers next) (opened w o z setup registers next) (λ _. refl)
+      open-ends Long registers next w o z setup (λ _. refl)
       (λ _. replace-length 0 (range (toBytes o) (toBytes z) flushed) memory (omega (arith, range-few (toBytes o) (toBytes z) flushed, fits .1, m .memory-sized .whole)))
 
   -- and those that an ERASE names
@@ -68,14 +68,10 @@ module _ (setup : Setup) (s : Session) (registers flash worn memory : List ℕ) 
 
   -- a CLOSE_WINDOW and a FLUSH, whether an erase fails or not
   close-long : Served closeWindow
-  close-long a =
-      let next = lent (numbered s registers) flash worn memory in
-      chosen Long (flushWhole next .failed) (stopped registers next) (closing 1 registers next) (λ _. refl) (λ _. refl)
+  close-long a = close-ends Long registers (lent (numbered s registers) flash worn memory) (λ _. refl) (λ _. refl)
 
   flush-long : Served flush
-  flush-long a =
-      let next = lent (flushing (numbered s registers) registers) flash worn memory in
-      chosen Long (flushWhole next .failed) (stopped registers next) (flushedThrough registers next) (λ _. refl) (λ _. refl)
+  flush-long a = flush-ends Long registers (lent (flushing (numbered s registers) registers) flash worn memory) (λ _. refl) (λ _. refl)
 
   served-long : (n : ℕ) → Served (commandAt n)
   served-long =
@@ -94,3 +90,30 @@ memory-long setup registers m =
     each-answer (Long setup (m .session) registers (m .flash) (m .worn) (m .memory)) setup registers m
     (served-long setup (m .session) registers (m .flash) (m .worn) (m .memory) (commandOf registers))
     (λ code. broken-long setup (m .session) registers (m .flash) (m .worn) (m .memory) code (commandOf registers)) (λ code. refl) (λ code. refl)
+
+-- ---- the map, which no command changes
+module _ (setup : Setup) (registers : List ℕ) (m : Machine) where
+  abbrev Mapped : Outcome → Type 0
+  Mapped o = o .machine .worn ≡ m .worn
+
+  create-mapped : (w : Window) → Mapped (created w setup registers (numberedIn registers m))
+  create-mapped w = open-ends Mapped registers (numberedIn registers m) w _ _ setup (λ _. refl) (λ _. refl)
+
+  served-mapped : (n : ℕ) → Mapped (commandAt n .leaves setup registers (numberedIn registers m))
+  served-mapped =
+      each-command (λ (_ : ℕ) (c : Command). Mapped (c .leaves setup registers (numberedIn registers m)))
+      refl refl refl (create-mapped Read)
+      (close-ends Mapped registers (numberedIn registers m) (λ _. refl) (λ _. refl))
+      (create-mapped Write) refl
+      (flush-ends Mapped registers (holding (flushing (numbered (m .session) registers) registers) m) (λ _. refl) (λ _. refl))
+      refl refl (λ _. refl)
+
+  broken-mapped : (code n : ℕ) → Mapped (commandAt n .whenBroken code registers (numberedIn registers m))
+  broken-mapped code =
+      each-command (λ (_ : ℕ) (c : Command). Mapped (c .whenBroken code registers (numberedIn registers m)))
+      refl refl refl refl refl refl refl refl refl refl (λ _. refl)
+
+pub map-same : (setup : Setup) (registers : List ℕ) (m : Machine) → mediate setup registers m .machine .worn ≡ m .worn
+map-same setup registers m =
+    each-answer (Mapped setup registers m) setup registers m (λ _. served-mapped setup registers m (commandOf registers))
+    (λ code. broken-mapped setup registers m code (commandOf registers)) (λ code. refl) (λ code. refl)

@@ -1,4 +1,5 @@
 mod Creating
+pub mod Ends
 pub mod Front
 pub mod Lengths
 mod Marking

@@ -34,11 +34,11 @@ use Rattle.recovery.proofs.SecondList.{fresh-as, info-leaves, create-op
 
 -- ---- either way to flush does all actions of the window
 way-flash : (setup : Setup) (way : Way) (m : Machine) → Succeeds setup way m → AddsNone way (m .session)
-    → sound (length (m .flash)) (length (m .memory)) (m .session) ≡ true → m .session .window ≡ Write → m .session .suspended ≡ false
+    → sound (length (m .flash)) (length (m .worn)) (length (m .memory)) (m .session) ≡ true → m .session .window ≡ Write → m .session .suspended ≡ false
     → flashAfter setup way m ≡ performIn (m .session) (m .memory) (windowActions (m .session)) (m .flash)
-way-flash setup bySteps m ok none e w a = steps-flash (m .session) (m .flash) (m .memory) e w a
+way-flash setup bySteps m ok none e w a = steps-flash (m .session) (m .flash) (m .worn) (m .memory) e w a
 way-flash setup (byFlush registers) m ok none e w a =
-    flush-leaves setup (m .session) registers (m .flash) (m .memory) (ok .0) (ok .1) none e
+    flush-leaves setup (m .session) registers (m .flash) (m .worn) (m .memory) (ok .0) (ok .1) none e
 
 -- what is done goes by the window's place, size and marks
 same-window : (t s : Session) → t .first ≡ s .first → t .size ≡ s .size → t .marks ≡ s .marks → (memory flash : List ℕ)
@@ -52,7 +52,7 @@ adds-none bySteps t v = tt
 adds-none (byFlush registers) t v =
     ap (λ (version : ℕ). cond (ltb version 2 && not (eqb (number 4 2 registers) 0)) (marked dirty t registers) t .marks) v
 
-module _ (setup : Setup) (s : Session) (flash memory : List ℕ) (sounds : soundAt setup (length flash) (length memory) s ≡ true) (w : s .window ≡ Write) where
+module _ (setup : Setup) (s : Session) (flash worn memory : List ℕ) (sounds : soundAt setup (length flash) (length memory) s ≡ true) (w : s .window ≡ Write) where
   e : sound (length flash) (length memory) s ≡ true
   e = measured setup (length flash) (length memory) s sounds .sound
 
@@ -69,7 +69,7 @@ module _ (setup : Setup) (s : Session) (flash memory : List ℕ) (sounds : sound
   sound₁ : sound (length flash) (length memory) (resumed s .session) ≡ true
   sound₁ = resumed-sound (length flash) (length memory) s e
 
-  unstopped-steps : StepsSucceed (unstopped (lent s flash memory))
+  unstopped-steps : StepsSucceed (unstopped (lent s flash worn memory))
   unstopped-steps = steps-said (resumed s .session) flash memory sound₁ (kept-window s (resumed s .session) k ∙ w) awake
 
   -- suspended or not, it adds what it would add before the resume
@@ -86,45 +86,45 @@ module _ (setup : Setup) (s : Session) (flash memory : List ℕ) (sounds : sound
       resumes true same = same
       resumes false same = refl
 
-  never-stopped : (way : Way) → Succeeds setup way (unstopped (lent s flash memory)) → AddsNone way s
-      → unstoppedFlash setup way (lent s flash memory) ≡ performIn s memory (windowActions s) flash
+  never-stopped : (way : Way) → Succeeds setup way (unstopped (lent s flash worn memory)) → AddsNone way s
+      → unstoppedFlash setup way (lent s flash worn memory) ≡ performIn s memory (windowActions s) flash
   never-stopped way ok none =
-      way-flash setup way (unstopped (lent s flash memory)) ok (adds way none) sound₁ (kept-window s (resumed s .session) k ∙ w) awake
+      way-flash setup way (unstopped (lent s flash worn memory)) ok (adds way none) sound₁ (kept-window s (resumed s .session) k ∙ w) awake
       ∙ same-window (resumed s .session) s (kept-first s (resumed s .session) k) (kept-size s (resumed s .session) k) (kept-marks s (resumed s .session) k) memory flash
 
   module _ (list : List FirstCall) where
-    r : Running s flash memory e w (cut (lent s flash memory) list)
-    r = runs s flash memory e w list (start (lent s flash memory)) (begins s flash memory e w)
+    r : Running s flash memory e w (cut (lent s flash worn memory) list)
+    r = runs s flash memory e w list (start (lent s flash worn memory)) (begins s flash memory e w)
 
-    at-cut : AtCut (lent s flash memory) list
+    at-cut : AtCut (lent s flash worn memory) list
     at-cut =
         record {
-          answered = says s flash memory e w list (start (lent s flash memory)) (begins s flash memory e w);
-          as-run = λ setup. machine-after s flash memory e w setup list (start (lent s flash memory));
-          blocks = block-at s flash memory e w (cut (lent s flash memory) list) r;
-          finished = finished-at s flash memory e w (cut (lent s flash memory) list) r;
-          old = old-at s flash memory e w (cut (lent s flash memory) list) r;
-          others = other-at s flash memory e w (cut (lent s flash memory) list) r;
-          flash-size = length-at s flash memory e w (cut (lent s flash memory) list) r;
-          session = session-after s flash memory e w list (start (lent s flash memory));
+          answered = says s flash memory e w list (start (lent s flash worn memory)) (begins s flash memory e w);
+          as-run = λ setup. machine-after s flash memory e w setup list (start (lent s flash worn memory));
+          blocks = block-at s flash memory e w (cut (lent s flash worn memory) list) r;
+          finished = finished-at s flash memory e w (cut (lent s flash worn memory) list) r;
+          old = old-at s flash memory e w (cut (lent s flash worn memory) list) r;
+          others = other-at s flash memory e w (cut (lent s flash worn memory) list) r;
+          flash-size = length-at s flash memory e w (cut (lent s flash worn memory) list) r;
+          session = session-after s flash memory e w list (start (lent s flash worn memory));
           kept = r .kept;
           memory-same = r .memory-is;
         }
 
     abbrev Again : Type 0
-    Again = SecondRun setup (lent s flash memory) (cut (lent s flash memory) list .machine .flash)
+    Again = SecondRun setup (lent s flash worn memory) (cut (lent s flash worn memory) list .machine .flash)
 
     abbrev end : Again → Machine
-    end q = secondEnd setup (lent s flash memory) (cut (lent s flash memory) list .machine .flash) q
+    end q = secondEnd setup (lent s flash worn memory) (cut (lent s flash worn memory) list .machine .flash) q
 
     -- ---- the second run: its window is open again
-    second-open : (q : Again) → Open (s .first) (s .size) (length memory) (cut (lent s flash memory) list .machine .flash) (end q)
+    second-open : (q : Again) → Open (s .first) (s .size) (length memory) (cut (lent s flash worn memory) list .machine .flash) (end q)
     second-open q =
         subst (λ (n : ℕ). Open (s .first) (s .size) n f₁ (end q)) long₁
         (subst (λ (f : List ℕ). Open (s .first) (s .size) (length (m₁ .memory)) f (end q)) (ap (λ (m : Machine). m .flash) left₁) o₃)
       where
         f₁ : List ℕ
-        f₁ = cut (lent s flash memory) list .machine .flash
+        f₁ = cut (lent s flash worn memory) list .machine .flash
 
         m₁ : Machine
         m₁ = agreeing setup (q .info) f₁ (q .other)
@@ -137,7 +137,7 @@ module _ (setup : Setup) (s : Session) (flash memory : List ℕ) (sounds : sound
 
         o₂ : Open (s .first) (s .size) (length (m₁ .memory)) (m₁ .flash) (opening setup (q .info) (q .create) f₁ (q .other))
         o₂ =
-            create-opens setup (m₁ .session) (q .create) (m₁ .flash) (m₁ .memory) (q .create-is) (q .create-succeeds)
+            create-opens setup (m₁ .session) (q .create) (m₁ .flash) (m₁ .worn) (m₁ .memory) (q .create-is) (q .create-succeeds)
             (ap (λ (m : Machine). m .session .marks) left₁) (s .first) (s .size) (q .agreed) (ap (λ (m : Machine). m .session .suspended) left₁)
             (q .same-first) (q .same-size)
 
@@ -146,27 +146,27 @@ module _ (setup : Setup) (s : Session) (flash memory : List ℕ) (sounds : sound
             calls-open setup (s .first) (s .size) (length (m₁ .memory)) (m₁ .flash) (subst (λ (n : ℕ). toBytes (s .size) ≤ n) (sym long₁) room)
             (q .calls) (q .allowed) (opening setup (q .info) (q .create) f₁ (q .other)) o₂
 
-    second-sound : (q : Again) → sound (length (end q .flash)) (length (end q .memory)) (end q .session) ≡ true
+    second-sound : (q : Again) → sound (length (end q .flash)) (length (end q .worn)) (length (end q .memory)) (end q .session) ≡ true
     second-sound q =
-        let f₁ = cut (lent s flash memory) list .machine .flash in
-        measured setup (length (end q .flash)) (length (end q .memory)) (end q .session)
+        let f₁ = cut (lent s flash worn memory) list .machine .flash in
+        measured setup (length (end q .flash)) (length (end q .worn)) (length (end q .memory)) (end q .session)
         (run-keeps setup (send (q .info) ∷ send (q .create) ∷ q .calls) (begun f₁ (q .other))
-        (fresh-as setup (length flash) (length memory) s sounds (length f₁) (length (q .other)) (length-at s flash memory e w (cut (lent s flash memory) list) r) (q .other-size)))
+        (fresh-as setup (length flash) (length memory) s sounds (length f₁) (length (q .other)) (length-at s flash memory e w (cut (lent s flash worn memory) list) r) (q .other-size)))
         .sound
 
     second-steps : (q : Again) → StepsSucceed (end q)
     second-steps q =
         let o = second-open q in
-        steps-said (end q .session) (end q .flash) (end q .memory) (second-sound q) (o .window) (o .awake)
+        steps-said (end q .session) (end q .flash) (end q .worn) (end q .memory) (second-sound q) (o .window) (o .awake)
 
-    second-ends : (q : Again) → secondFlash setup (lent s flash memory) (cut (lent s flash memory) list .machine .flash) q ≡ performIn s memory (windowActions s) flash
+    second-ends : (q : Again) → secondFlash setup (lent s flash worn memory) (cut (lent s flash worn memory) list .machine .flash) q ≡ performIn s memory (windowActions s) flash
     second-ends q =
         let o = second-open q in
         way-flash setup (q .way) (end q) (q .way-succeeds) (adds-none (q .way) (end q .session) (o .agreed)) (second-sound q) (o .window) (o .awake)
         ∙ same-window (end q .session) s (o .first-is) (o .size-is) (q .same-marks) (end q .memory) (end q .flash)
         ∙ ap (performIn s (end q .memory) (windowActions s)) (o .flash-is ∙ r .flash-is)
         ∙ after-cut s flash (part-within (length flash) (length memory) s e .0) memory room (marks-sound s flash memory e w) (end q .memory)
-        (subst (λ (n : ℕ). toBytes (s .size) ≤ n) (sym (o .memory-long)) room) (q .same-bytes) (cut (lent s flash memory) list .count)
+        (subst (λ (n : ℕ). toBytes (s .size) ≤ n) (sym (o .memory-long)) room) (q .same-bytes) (cut (lent s flash worn memory) list .count)
 
 -- the statement stands in specs/Demand.antt
 pub demand-3 : Demand3

@@ -70,7 +70,7 @@ one-more actions j =
     ∙ append-nil (take j actions)))
     (decided (ltb j (length actions)))
 
-module _ (s : Session) (flash memory : List ℕ) (e : sound (length flash) (length memory) s ≡ true) (w : s .window ≡ Write) where
+module _ (s : Session) (flash worn memory : List ℕ) (e : sound (length flash) (length memory) s ≡ true) (w : s .window ≡ Write) where
   abbrev pub N : ℕ
   N = actionsOf s
 
@@ -96,7 +96,7 @@ module _ (s : Session) (flash memory : List ℕ) (e : sound (length flash) (leng
     pub few : st .count ≤ actionsOf s
     pub flash-is : st .machine .flash ≡ performIn s memory (take (st .count) (windowActions s)) flash
 
-  pub begins : Running (start (lent s flash memory))
+  pub begins : Running (start (lent s flash worn memory))
   begins =
       record {
         kept = refl;
@@ -111,7 +111,7 @@ module _ (s : Session) (flash memory : List ℕ) (e : sound (length flash) (leng
       ap length (r .flash-is)
       ∙ in-length s flash fits memory room (take (st .count) (windowActions s)) (all-take (s .size) (st .count) (windowActions s) all)
 
-  still-sound : (st : State) → Running st → sound (length (st .machine .flash)) (length (st .machine .memory)) (st .machine .session) ≡ true
+  still-sound : (st : State) → Running st → sound (length (st .machine .flash)) (length (st .machine .worn)) (length (st .machine .memory)) (st .machine .session) ≡ true
   still-sound st r =
       rw (same-length st r, r .memory-is) (r .sounds)
 
@@ -347,10 +347,10 @@ module _ (s : Session) (flash memory : List ℕ) (e : sound (length flash) (leng
       ap (λ (b : Bool). counted N b (st .count)) u ∙ ap (λ (t : Bool). cond t (st .count + 1) (st .count)) (lt-ltb (st .count) N (omega arith)) in
       steps-count n (after N step st) u (rw more (omega arith)) ∙ rw more (omega arith)
 
-  pub steps-flash : s .suspended ≡ false → afterAll N (replicate N step) (start (lent s flash memory)) .machine .flash ≡ performIn s memory (windowActions s) flash
+  pub steps-flash : s .suspended ≡ false → afterAll N (replicate N step) (start (lent s flash worn memory)) .machine .flash ≡ performIn s memory (windowActions s) flash
   steps-flash u =
-      let count : afterAll N (replicate N step) (start (lent s flash memory)) .count ≡ N = steps-count N (start (lent s flash memory)) u (omega arith) ∙ omega arith in
-      runs (replicate N step) (start (lent s flash memory)) begins .flash-is
+      let count : afterAll N (replicate N step) (start (lent s flash worn memory)) .count ≡ N = steps-count N (start (lent s flash worn memory)) u (omega arith) ∙ omega arith in
+      runs (replicate N step) (start (lent s flash worn memory)) begins .flash-is
       ∙ ap (λ (j : ℕ). performIn s memory (take j (windowActions s)) flash) count
       ∙ ap (λ (xs : List Action). performIn s memory xs flash) (take-all N (windowActions s) (omega arith))
 
@@ -362,8 +362,8 @@ module _ (s : Session) (flash memory : List ℕ) (e : sound (length flash) (leng
       ap (λ (b : Bool). stepped 1 b ∷ expected N (replicate n step) false (cond b (j + 1) j)) t
       ∙ ap (λ (xs : List Said). stepped 1 true ∷ xs) (steps-expected n (j + 1) (omega arith))
 
-  pub steps-said : s .suspended ≡ false → answers N (replicate N step) (start (lent s flash memory)) ≡ replicate N (stepped 1 true)
+  pub steps-said : s .suspended ≡ false → answers N (replicate N step) (start (lent s flash worn memory)) ≡ replicate N (stepped 1 true)
   steps-said u =
-      says (replicate N step) (start (lent s flash memory)) begins
+      says (replicate N step) (start (lent s flash worn memory)) begins
       ∙ ap (λ (b : Bool). expected N (replicate N step) b 0) u
       ∙ steps-expected N 0 (omega arith)

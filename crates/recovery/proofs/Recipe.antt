@@ -51,7 +51,7 @@ append-called setup (x ∷ xs) ys m = append-called setup xs ys (called setup x 
 neither : (mark : ℕ) → mark ≤ 2 → (mark ≡ 1 → ⊥) → (mark ≡ 2 → ⊥) → mark ≡ 0
 neither mark h p q = omega arith
 
-module _ (setup : Setup) (s : Session) (flash memory : List ℕ) (sounds : soundAt setup (length flash) (length memory) s ≡ true) (w : s .window ≡ Write)
+module _ (setup : Setup) (s : Session) (flash worn memory : List ℕ) (sounds : soundAt setup (length flash) (length memory) s ≡ true) (w : s .window ≡ Write)
     (many : length (s .marks) ≡ 64) where
   -- what the session and the sizes tell
   d : Measured (length flash) (length memory) s

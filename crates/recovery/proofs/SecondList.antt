@@ -42,7 +42,7 @@ clean-none : flushActions clean ≡ []
 unfolding flushActions actionsFrom blockActions
 clean-none = refl
 
-flush-clean : (s : Session) (memory flash : List ℕ) → s .marks ≡ clean → flushWhole (lent s flash memory) .flash ≡ flash
+flush-clean : (s : Session) (memory flash : List ℕ) → s .marks ≡ clean → flushWhole (lent s flash worn memory) .flash ≡ flash
 unfolding flushWhole
 flush-clean s memory flash c =
     ⊎-elim
@@ -69,11 +69,11 @@ flush-from s registers true same counts =
 flush-from s registers false same counts = refl
 
 pub flush-leaves : (setup : Setup) (s : Session) (registers flash memory : List ℕ) → commandOf registers ≡ flush .code
-    → getD (mediate setup registers (lent s flash memory) .registers) 13 0 ≡ 1 → flushing s registers .marks ≡ s .marks
-    → sound (length flash) (length memory) s ≡ true → mediate setup registers (lent s flash memory) .machine .flash ≡ performIn s memory (windowActions s) flash
+    → getD (mediate setup registers (lent s flash worn memory) .registers) 13 0 ≡ 1 → flushing s registers .marks ≡ s .marks
+    → sound (length flash) (length memory) s ≡ true → mediate setup registers (lent s flash worn memory) .machine .flash ≡ performIn s memory (windowActions s) flash
 unfolding commandAt
 flush-leaves setup s registers flash memory c ok none e =
-    ap (λ (o : Outcome). o .machine .flash) (carried setup registers (lent s flash memory) (flush .code) c (accepted setup s registers flash memory ok))
+    ap (λ (o : Outcome). o .machine .flash) (carried setup registers (lent s flash worn memory) (flush .code) c (accepted setup s registers flash memory ok))
     ∙ ap (λ (t : Session). flushedAll registers (lent t flash memory) .machine .flash) (flush-from s registers (flushMarks s registers) none (counts-right (length flash) (length memory) s e))
     ∙ flush-kept s registers memory flash e
 
@@ -88,12 +88,12 @@ pub record Open (first size long : ℕ) (flash : List ℕ) (m : Machine) : Type 
   pub memory-long : length (m .memory) ≡ long
 
 -- ---- a fresh session is sound on buffers as long as those of a sound one
-pub fresh-as : (setup : Setup) (flash memory : ℕ) (s : Session) → soundAt setup flash memory s ≡ true
+pub fresh-as : (setup : Setup) (flash worn memory : ℕ) (s : Session) → soundAt setup flash worn memory s ≡ true
     → (f x : ℕ) → f ≡ flash → x ≡ memory → soundAt setup f x fresh ≡ true
 unfolding soundAt sound
 fresh-as setup flash memory s e f x p q =
-    let b = both (sound flash memory s) _ e in
-    rw (p, q) (fresh-sound setup flash memory (both (sizesSound flash memory) _ (b .0) .0) (leb-true _ _ (b .1)))
+    let b = both (sound flash worn memory s) _ e in
+    rw (p, q) (fresh-sound setup flash memory (both (sizesSound flash worn memory) _ (b .0) .0) (leb-true _ _ (b .1)))
 
 -- ---- GET_INFO on a fresh session
 pub info-leaves : (setup : Setup) (registers flash memory : List ℕ) → commandOf registers ≡ getInfo .code → response setup registers (begun flash memory) ≡ 1
@@ -105,17 +105,17 @@ info-leaves setup registers flash memory c ok =
 
 -- ---- CREATE_WRITE_WINDOW on a session without marks
 module _ (setup : Setup) (s : Session) (registers flash memory : List ℕ) (c : commandOf registers ≡ createWriteWindow .code)
-    (ok : getD (mediate setup registers (lent s flash memory) .registers) 13 0 ≡ 1) (none : s .marks ≡ clean) where
-  create-leaves : mediate setup registers (lent s flash memory) ≡ created Write setup registers (lent (numbered s registers) flash memory)
+    (ok : getD (mediate setup registers (lent s flash worn memory) .registers) 13 0 ≡ 1) (none : s .marks ≡ clean) where
+  create-leaves : mediate setup registers (lent s flash worn memory) ≡ created Write setup registers (lent (numbered s registers) flash memory)
   unfolding commandAt
-  create-leaves = carried setup registers (lent s flash memory) (createWriteWindow .code) c (accepted setup s registers flash memory ok)
+  create-leaves = carried setup registers (lent s flash worn memory) (createWriteWindow .code) c (accepted setup s registers flash memory ok)
 
-  create-flash : mediate setup registers (lent s flash memory) .machine .flash ≡ flash
+  create-flash : mediate setup registers (lent s flash worn memory) .machine .flash ≡ flash
   create-flash = ap (λ (o : Outcome). o .machine .flash) create-leaves ∙ flush-clean (numbered s registers) memory flash none
 
   pub create-opens : (first size : ℕ) → s .version ≡ 2 → s .suspended ≡ false
-      → mediate setup registers (lent s flash memory) .machine .session .first ≡ first → mediate setup registers (lent s flash memory) .machine .session .size ≡ size
-      → Open first size (length memory) flash (mediate setup registers (lent s flash memory) .machine)
+      → mediate setup registers (lent s flash worn memory) .machine .session .first ≡ first → mediate setup registers (lent s flash worn memory) .machine .session .size ≡ size
+      → Open first size (length memory) flash (mediate setup registers (lent s flash worn memory) .machine)
   create-opens first size v a f z =
       record {
         agreed = ap (λ (o : Outcome). o .machine .session .version) create-leaves ∙ v;
@@ -124,7 +124,7 @@ module _ (setup : Setup) (s : Session) (registers flash memory : List ℕ) (c : 
         first-is = f;
         size-is = z;
         flash-is = create-flash;
-        memory-long = memory-long setup registers (lent s flash memory);
+        memory-long = memory-long setup registers (lent s flash worn memory);
       }
 
 -- ---- the list: every command and host write keeps the window open and the flash as it is
@@ -209,7 +209,7 @@ module _ (setup : Setup) (first size long : ℕ) (flash : List ℕ) (room : toBy
   -- a list of marks in one call, refused or not
   list-open : (m : Machine) → Open first size long flash m → (list : List ℕ) → Open first size long flash (afterList setup list m)
   list-open m o list =
-      list-left (λ (t : Session). Open first size long flash (lent t (m .flash) (m .memory))) setup list m o
+      list-left (λ (t : Session). Open first size long flash (lent t (m .flash) (m .worn) (m .memory))) setup list m o
       (λ _. kept-open m o (withMarks (markPairs (pairsOf list) (m .session .marks)) (m .session)) refl refl refl refl refl (m .memory) refl)
 
   call-open : (call : Call) → Allowed size call → (m : Machine) → Open first size long flash m → Open first size long flash (called setup call m)

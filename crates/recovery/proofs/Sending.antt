@@ -38,7 +38,7 @@ pub hinted : (S C o z : ℕ) → 1 ≤ z → z ≤ C → o + z ≤ S → sizeFor
 hinted S C o z some few fits = rw (ne-eqb z 0 (omega arith)) (omega arith)
 
 -- ---- GET_INFO on a fresh session
-pub info-taken : (setup : Setup) (flash memory : List ℕ) → soundAt setup (length flash) (length memory) fresh ≡ true
+pub info-taken : (setup : Setup) (flash worn memory : List ℕ) → soundAt setup (length flash) (length memory) fresh ≡ true
     → response setup getInfo (begun flash memory) ≡ 1
 unfolding commandAt
 info-taken setup flash memory e =
@@ -48,7 +48,7 @@ info-taken setup flash memory e =
 
 -- ---- a machine that has agreed version 2 and is not suspended, and the last number that it was sent
 pub record Serving (setup : Setup) (last : ℕ) (m : Machine) : Type 0 where
-  pub sounds : soundAt setup (length (m .flash)) (length (m .memory)) (m .session) ≡ true
+  pub sounds : soundAt setup (length (m .flash)) (length (m .worn)) (length (m .memory)) (m .session) ≡ true
   pub agreed : m .session .version ≡ 2
   pub awake : m .session .suspended ≡ false
   pub previous : m .session .previous ≡ Number last

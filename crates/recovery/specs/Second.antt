@@ -61,7 +61,7 @@ flashAfter setup (byFlush registers) m = mediate setup registers m .machine .fla
 
 -- ---- the second run, call by call: "a fresh session, .. the flash as the cut left it, any window memory"
 abbrev pub begun : List ℕ → List ℕ → Machine
-begun flash memory = lent fresh flash memory
+begun flash memory = lent fresh flash worn memory
 
 -- "It agrees version 2"
 abbrev pub agreeing : Setup → List ℕ → List ℕ → List ℕ → Machine

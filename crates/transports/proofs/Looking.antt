@@ -50,11 +50,11 @@ module _ (setup : Setup) (command sequence : ℕ) (xs ys : List ℕ) where
   other = command ∷ sequence ∷ ys
 
   -- answers with the same arguments
-  answered-alike : (s : Session) (code : ℕ) (arguments : List ℕ) (actions : ℕ) (flash memory : List ℕ)
+  answered-alike : (s : Session) (code : ℕ) (arguments : List ℕ) (actions : ℕ) (flash worn memory : List ℕ)
       → seen (outcome (answered s one code arguments actions) flash memory) ≡ seen (outcome (answered s other code arguments actions) flash memory)
   answered-alike s code arguments actions flash memory =
-      ap (λ (t : List ℕ). record { machine = lent s flash memory; front = elements 14 0 t; actions = actions }) (reply-as one code arguments (s .events))
-      ∙ ap (λ (t : List ℕ). record { machine = lent s flash memory; front = elements 14 0 t; actions = actions })
+      ap (λ (t : List ℕ). record { machine = lent s flash worn memory; front = elements 14 0 t; actions = actions }) (reply-as one code arguments (s .events))
+      ∙ ap (λ (t : List ℕ). record { machine = lent s flash worn memory; front = elements 14 0 t; actions = actions })
       (sym (reply-as other code arguments (s .events)))
 
   -- GET_INFO, of the same argument 0
@@ -62,7 +62,7 @@ module _ (setup : Setup) (command sequence : ℕ) (xs ys : List ℕ) where
   informed-alike m e =
       let C = roundUp (length (m .memory)) in
       answered-alike (withVersion (min (argument 0 one) 2) (m .session)) 1 (infoArguments (min (argument 0 one) 2) C (setup .timeout)) 0
-      (m .flash) (m .memory)
+      (m .flash) (m .worn) (m .memory)
       ∙ ap (λ (a : ℕ). seen (leaving (answered (withVersion (min a 2) (m .session)) other 1 (infoArguments (min a 2) C (setup .timeout)) 0) m)) e
 
   -- GET_FLASH_INFO
@@ -70,7 +70,7 @@ module _ (setup : Setup) (command sequence : ℕ) (xs ys : List ℕ) where
   flashInformed-alike m =
       let S = roundUp (length (m .flash)) in
       answered-alike (m .session) 1
-      (cond (ltb (m .session .version) 2) (bytesOf 4 (toBytes S) ++ bytesOf 4 blockBytes) (bytesOf 2 S ++ bytesOf 2 1)) 0 (m .flash) (m .memory)
+      (cond (ltb (m .session .version) 2) (bytesOf 4 (toBytes S) ++ bytesOf 4 blockBytes) (bytesOf 2 S ++ bytesOf 2 1)) 0 (m .flash) (m .worn) (m .memory)
 
   -- a create, of the same block and hint
   opened-alike : (window : Window) (m : Machine) (o size : ℕ) → seen (opened window o size setup one m) ≡ seen (opened window o size setup other m)
@@ -119,7 +119,7 @@ throughRow o command r = command ∷ getD r 1 0 ∷ (argumentsOf o (givenBy o (f
 -- the mediator leaves the same of both
 abbrev pub Alike : ℕ → ℕ → Option Row → Type 0
 Alike command version o =
-    (setup : Setup) (r : List ℕ) (s : Session) (flash memory : List ℕ)
+    (setup : Setup) (r : List ℕ) (s : Session) (flash worn memory : List ℕ)
     → seen (mediate setup (filledWith command r) (lent (withVersion version s) flash memory))
     ≡ seen (mediate setup (throughRow o command r) (lent (withVersion version s) flash memory))
 

@@ -48,7 +48,7 @@ agreed-some : (a : ℕ) → eqb a 0 ≡ false → (1 ≤ min a 2) × (min a 2 �
 agreed-some a e = let n = eqb-false a 0 e in (omega arith, omega arith)
 
 -- ---- a command that no check refused, by its row, at a version
-module _ (setup : Setup) (registers : List ℕ) (s : Session) (flash memory : List ℕ) where
+module _ (setup : Setup) (registers : List ℕ) (s : Session) (flash worn memory : List ℕ) where
   abbrev at : ℕ → Machine
   at version = lent (withVersion version s) flash memory
 
@@ -113,8 +113,8 @@ module _ (setup : Setup) (registers : List ℕ) (s : Session) (flash memory : Li
 pub success-whole : (setup : Setup) (registers : List ℕ) (m : Machine) → statusOf (mediate setup registers m .registers) ≡ 1
     → Whole (commandOf registers) (mediate setup registers m)
 success-whole setup registers m e =
-    let a = accepted setup (m .session) registers (m .flash) (m .memory) e in
-    let sounds = checked setup registers (m .session) (m .flash) (m .memory) (commandIn registers) (m .session .version) a .sounds in
-    let z = measured setup (length (m .flash)) (length (m .memory)) (m .session) sounds in
+    let a = accepted setup (m .session) registers (m .flash) (m .worn) (m .memory) e in
+    let sounds = checked setup registers (m .session) (m .flash) (m .worn) (m .memory) (commandIn registers) (m .session .version) a .sounds in
+    let z = measured setup (length (m .flash)) (length (m .worn)) (length (m .memory)) (m .session) sounds in
     subst (Whole (commandOf registers)) (sym (carried setup registers m (commandOf registers) refl a))
-    (whole-at setup registers (m .session) (m .flash) (m .memory) (m .session .version) (commandOf registers) (z .fits .known) a)
+    (whole-at setup registers (m .session) (m .flash) (m .worn) (m .memory) (m .session .version) (commandOf registers) (z .fits .known) a)
