@@ -30,6 +30,10 @@ filled s offset count value memory =
 
 -- ---- all records
 
+-- the bench's map of worn blocks: "It has S = 4", and no block of its chip is worn (02, Ticket 8)
+abbrev pub noneWorn : List ℕ
+noneWorn = replicate 4 0
+
 -- what is left: whether the rules are kept, the registers, and the session and both buffers
 pub record Effect : Type 0 where
   pub good : Bool
@@ -38,7 +42,7 @@ pub record Effect : Type 0 where
 
 -- as the code has them
 abbrev pub effected : Served → List ℕ → List ℕ → Effect
-effected r flash memory = record { good = r .good; registers = r .registers; machine = lent (r .session) flash memory }
+effected r flash memory = record { good = r .good; registers = r .registers; machine = lent (r .session) flash noneWorn memory }
 
 -- what a record leaves
 abbrev pub leaves : Bool → List ℕ → Machine → Effect
@@ -53,7 +57,7 @@ abbrev pub effectOf : Kind → Setup → Item → Machine → Effect
 effectOf Command setup item m = commanded (mediate setup (item .registers) m)
 effectOf Fill setup item m =
     leaves (fillAllowed (m .session) (length (m .memory)) (item .offset) (item .count)) (item .registers)
-    (lent (m .session) (m .flash) (filled (m .session) (item .offset) (item .count) (item .value) (m .memory)))
+    (lent (m .session) (m .flash) (m .worn) (filled (m .session) (item .offset) (item .count) (item .value) (m .memory)))
 effectOf Suspend setup item m = leaves true (item .registers) (holding (suspended (m .session) .session) m)
 effectOf Resume setup item m = leaves true (item .registers) (holding (resumed (m .session) .session) m)
 effectOf ResumeChanged setup item m = leaves true (item .registers) (holding (resumedChanged (m .session) .session) m)

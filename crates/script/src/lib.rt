@@ -19,7 +19,7 @@ ghost use mathlib.Core.Bool.{true};
 ghost use lib.ListN.{length};
 ghost use Rattle.session.specs.Machine.{setUp, lent};
 ghost use Rattle.refusals.specs.Refusals.{isWrite};
-ghost use Rattle.script.specs.Effects.{fillAllowed, filled, effected, effect};
+ghost use Rattle.script.specs.Effects.{noneWorn, fillAllowed, filled, effected, effect};
 
 // What a record leaves: whether it keeps the rules, the session, and the registers, which are the
 // answer where it is a command.
@@ -29,7 +29,8 @@ pub struct Served {
     pub registers: [u8; 16],
 }
 
-// Carries out a record. One that breaks a rule changes nothing.
+// Carries out a record. One that breaks a rule changes nothing. A command is lent the map of the bench's
+// chip, four good blocks, so that with a flash of another size it is refused.
 pub fn serve(
     item: Item,
     session: Session,
@@ -38,12 +39,16 @@ pub fn serve(
     memory: &mut [u8],
 ) -> Served
     ensures { λ r. ⌜ effected r (now (flash .exit)) (now (memory .exit))
-        ≡ effect (setUp board) item (lent session (now (flash .entry)) (now (memory .entry))) ⌝ }
+        ≡ effect (setUp board) item (lent session (now (flash .entry)) noneWorn (now (memory .entry))) ⌝ }
 {
     let kind = item.kind;
     let registers = item.registers;
     match kind {
-        Kind::Command => answered(command(session, registers, board, flash, memory)),
+        Kind::Command => {
+            // S = 4, and no block is worn
+            let worn = [0u8; 4];
+            answered(command(session, registers, board, flash, &worn, memory))
+        }
         Kind::Fill => Served {
             good: fill_window(session, memory, item.offset, item.count, item.value),
             session,

@@ -9,7 +9,7 @@ use Rattle.session.specs.Machine.{Setup, setUp, Machine, lent}
 use Rattle.session.specs.Record.{fresh}
 use Rattle.records.specs.declared.Kind.{Kind}
 use Rattle.records.specs.Records.{recordAt}
-use Rattle.script.specs.Effects.{Effect, effect}
+use Rattle.script.specs.Effects.{noneWorn, Effect, effect}
 use Rattle.transcript.specs.Printing.{answerText, badLine, tooLong, flashLine}
 
 -- what a run prints from some record on, and the flash that it leaves
@@ -49,7 +49,7 @@ blank blocks = replicate (toBytes blocks) 0xff
 -- all records: each has a byte at least, so there are no more than bytes. The window memory begins as FF, which nothing shows: a create
 -- copies over what a window has
 abbrev pub ran : List ℕ → Ran
-ran input = runFrom (length input) bench input 0 (lent fresh (blank 4) (blank 2))
+ran input = runFrom (length input) bench input 0 (lent fresh (blank 4) noneWorn (blank 2))
 
 -- "Standard input, at most 16,384 bytes"; "Longer input prints only `too long`"
 unfoldable pub transcript : List ℕ → List ℕ
