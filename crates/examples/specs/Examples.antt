@@ -11,7 +11,7 @@ use Rattle.buffers.specs.Ranges.{range, replace}
 use Rattle.chip.specs.Actions.{pageBytes}
 use Rattle.session.specs.declared.Window.{Window}
 use Rattle.session.specs.declared.Window.the-variants.{Closed, Read, Write}
-use Rattle.session.specs.Machine.{Setup, setUp, Machine, lent, holding}
+use Rattle.session.specs.Machine.{Setup, setUp, Machine, lent, holding, wearing}
 use Rattle.session.specs.Record.{fresh, withVersion, withAccess, withCounted}
 use Rattle.session.specs.declared.suspension.Suspension.{Suspension}
 use Rattle.session.specs.Suspension.{suspended, resumed, resumedChanged}
@@ -72,11 +72,15 @@ abbrev pub blocks : List ℕ → List ℕ
 blocks [] = []
 blocks (value ∷ values) = replicate blockBytes value ++ blocks values
 
--- "S = 4, C = 2", a fresh session; no two blocks are alike
+-- a map of four blocks of which none is worn: "one byte a block, 0 good" (02, Ticket 8)
+abbrev pub good : List ℕ
+good = 0 ∷ 0 ∷ 0 ∷ 0 ∷ []
+
+-- "S = 4, C = 2", a fresh session; no two blocks are alike, and none is worn
 abbrev pub start : State
 start =
     record {
-      machine = lent fresh (blocks (0xa0 ∷ 0xa1 ∷ 0xa2 ∷ 0xa3 ∷ [])) (blocks (0xb0 ∷ 0xb1 ∷ []));
+      machine = lent fresh (blocks (0xa0 ∷ 0xa1 ∷ 0xa2 ∷ 0xa3 ∷ [])) good (blocks (0xb0 ∷ 0xb1 ∷ []));
       code = 0;
       arguments = [];
       actions = 0;
@@ -107,7 +111,7 @@ command registers s = replied (mediate setup (padded 16 registers) (s .machine))
 abbrev pub stepped : Advanced → State → State
 stepped a s =
     record {
-      machine = lent (s .machine .session) (a .flash) (s .machine .memory);
+      machine = lent (s .machine .session) (a .flash) (s .machine .worn) (s .machine .memory);
       code = a .code;
       arguments = [];
       actions = cond (a .yes) 1 0;
@@ -168,7 +172,11 @@ versionFound n s = changed (holding (withVersion n (s .machine .session)) (s .ma
 
 -- another flash and window memory are lent
 abbrev pub lend : List ℕ → List ℕ → Call
-lend flash memory s = changed (lent (s .machine .session) flash memory) s
+lend flash memory s = changed (lent (s .machine .session) flash (s .machine .worn) memory) s
+
+-- another map of worn blocks is lent, of whatever length
+abbrev pub wear : List ℕ → Call
+wear worn s = changed (wearing worn (s .machine)) s
 
 -- the host writes these bytes to the front of window memory
 abbrev pub write : List ℕ → Call
@@ -255,6 +263,10 @@ flash expected s = same (s .machine .flash) expected
 -- every byte of the window memory
 abbrev pub memory : List ℕ → Check
 memory expected s = same (s .machine .memory) expected
+
+-- every byte of the map of worn blocks
+abbrev pub map : List ℕ → Check
+map expected s = same (s .machine .worn) expected
 
 -- ---- the twelve: "S = 4, C = 2, B = 16, version 2 unless said"
 
@@ -602,11 +614,89 @@ example17 =
     ∷ command (8 ∷ 8 ∷ []) shows (code 1 ∷ actions 34 ∷ marks [] ∷ flash (blocks (0xa0 ∷ 0xff ∷ 0xff ∷ 0xa3 ∷ [])) ∷ [])
     ∷ []
 
+-- Ticket 8, "An erase of a worn block fails and changes nothing": in a window of flash blocks 1 and 2. A worn block without a mark, or outside the window, has no
+-- effect. "A flush stops at the first failure. Finished blocks become clean; the failing one and those behind it keep their marks", "FLUSH and CLOSE_WINDOW then
+-- answer WRITE_ERROR and the window stays active", also at version 1, where FLUSH marks first; a create "leaves no window", and nothing is copied. "WRITE_ERROR (3)
+-- comes after the argument check, but in a create before it". "The action count leaves out the failed erase", and what is pending counts "as if no block were
+-- worn". "The stepped form answers 3 from that erase on", past the end too, and 6 while suspended. "A map whose length is not S is SYSTEM_ERROR, first", and 4 to a
+-- step and to a list of marks. With a good map again a FLUSH ends what is left
+abbrev pub example18 : Example
+example18 =
+    command (2 ∷ 1 ∷ 2 ∷ []) shows (version 2 ∷ [])
+    ∷ command (6 ∷ 2 ∷ 1 ∷ 0 ∷ []) shows (window Write 1 2 ∷ [])
+    ∷ wear (1 ∷ 0 ∷ 255 ∷ 1 ∷ []) shows []
+    ∷ command (10 ∷ 3 ∷ 0 ∷ 0 ∷ 1 ∷ 0 ∷ []) shows (code 1 ∷ marks (2 ∷ []) ∷ pending 1 1 ∷ [])
+    ∷ command (8 ∷ 4 ∷ []) shows (code 1 ∷ arguments [] ∷ actions 1 ∷ window Write 1 2 ∷ marks [] ∷ pending 0 0 ∷ flash (blocks (0xa0 ∷ 0xff ∷ 0xa2 ∷ 0xa3 ∷ [])) ∷ [])
+    ∷ write (blocks (0x5a ∷ 0x5b ∷ [])) shows []
+    ∷ command (7 ∷ 5 ∷ 0 ∷ 0 ∷ 2 ∷ 0 ∷ []) shows (code 1 ∷ marks (1 ∷ 1 ∷ []) ∷ pending 2 34 ∷ [])
+    ∷ step 1 shows (code 1 ∷ actions 1 ∷ flash (withBlock1 (paged 0x5a 0xff)) ∷ [])
+    ∷ step 17 shows (code 3 ∷ actions 0 ∷ marks (1 ∷ 1 ∷ []) ∷ pending 2 34 ∷ flash (withBlock1 (paged 0x5a 0xff)) ∷ [])
+    ∷ step 18 shows (code 3 ∷ actions 0 ∷ [])
+    ∷ step 34 shows (code 3 ∷ actions 0 ∷ flash (withBlock1 (paged 0x5a 0xff)) ∷ [])
+    ∷ step 16 shows (code 1 ∷ actions 1 ∷ [])
+    ∷ suspend shows []
+    ∷ step 17 shows (code 6 ∷ actions 0 ∷ [])
+    ∷ command (8 ∷ 6 ∷ []) shows (refused 6 ∷ actions 0 ∷ marks (1 ∷ 1 ∷ []) ∷ [])
+    ∷ resume shows []
+    ∷ command (8 ∷ 7 ∷ []) shows (refused 3 ∷ actions 17 ∷ window Write 1 2 ∷ marks (0 ∷ 1 ∷ []) ∷ pending 1 17 ∷ events 0x81 ∷ map (1 ∷ 0 ∷ 255 ∷ 1 ∷ []) ∷ memory (blocks (0x5a ∷ 0x5b ∷ [])) ∷ flash (blocks (0xa0 ∷ 0x5a ∷ 0xa2 ∷ 0xa3 ∷ [])) ∷ [])
+    ∷ command (8 ∷ 7 ∷ []) shows (refused 8 ∷ [])
+    ∷ command (8 ∷ 8 ∷ []) shows (refused 3 ∷ actions 0 ∷ marks (0 ∷ 1 ∷ []) ∷ pending 1 17 ∷ [])
+    ∷ step 0 shows (code 3 ∷ actions 0 ∷ [])
+    ∷ write (blocks (0x77 ∷ 0x78 ∷ [])) shows []
+    ∷ command (7 ∷ 9 ∷ 0 ∷ 0 ∷ 1 ∷ 0 ∷ []) shows (marks (1 ∷ 1 ∷ []) ∷ [])
+    ∷ command (5 ∷ 10 ∷ 2 ∷ []) shows (refused 2 ∷ actions 0 ∷ window Write 1 2 ∷ marks (1 ∷ 1 ∷ []) ∷ flash (blocks (0xa0 ∷ 0x5a ∷ 0xa2 ∷ 0xa3 ∷ [])) ∷ [])
+    ∷ command (5 ∷ 11 ∷ 1 ∷ []) shows (refused 3 ∷ actions 17 ∷ window Write 1 2 ∷ marks (0 ∷ 1 ∷ []) ∷ pending 1 17 ∷ memory (blocks (0x77 ∷ 0x78 ∷ [])) ∷ flash (blocks (0xa0 ∷ 0x77 ∷ 0xa2 ∷ 0xa3 ∷ [])) ∷ [])
+    ∷ command (10 ∷ 12 ∷ 1 ∷ 0 ∷ 1 ∷ 0 ∷ []) shows (code 1 ∷ marks (0 ∷ 2 ∷ []) ∷ pending 1 1 ∷ memory (blocks (0x77 ∷ 0xff ∷ [])) ∷ [])
+    ∷ write (blocks (0x11 ∷ 0x12 ∷ [])) shows []
+    ∷ command (7 ∷ 13 ∷ 0 ∷ 0 ∷ 1 ∷ 0 ∷ []) shows (marks (1 ∷ 2 ∷ []) ∷ pending 2 18 ∷ [])
+    ∷ command (8 ∷ 14 ∷ []) shows (refused 3 ∷ actions 17 ∷ window Write 1 2 ∷ marks (0 ∷ 2 ∷ []) ∷ pending 1 1 ∷ flash (blocks (0xa0 ∷ 0x11 ∷ 0xa2 ∷ 0xa3 ∷ [])) ∷ [])
+    ∷ command (10 ∷ 15 ∷ 0 ∷ 0 ∷ 1 ∷ 0 ∷ []) shows (marks (2 ∷ 2 ∷ []) ∷ pending 2 2 ∷ [])
+    ∷ command (5 ∷ 16 ∷ []) shows (refused 3 ∷ actions 1 ∷ window Write 1 2 ∷ marks (0 ∷ 2 ∷ []) ∷ pending 1 1 ∷ flash (blocks (0xa0 ∷ 0xff ∷ 0xa2 ∷ 0xa3 ∷ [])) ∷ [])
+    ∷ wear (0 ∷ 128 ∷ 0 ∷ 0 ∷ []) shows []
+    ∷ write (blocks (0x31 ∷ 0x32 ∷ [])) shows []
+    ∷ command (7 ∷ 17 ∷ 0 ∷ 0 ∷ 1 ∷ 0 ∷ []) shows (marks (1 ∷ 2 ∷ []) ∷ pending 2 18 ∷ [])
+    ∷ step 0 shows (code 3 ∷ actions 0 ∷ [])
+    ∷ step 17 shows (code 3 ∷ actions 0 ∷ [])
+    ∷ command (8 ∷ 18 ∷ []) shows (refused 3 ∷ actions 0 ∷ window Write 1 2 ∷ marks (1 ∷ 2 ∷ []) ∷ pending 2 18 ∷ flash (blocks (0xa0 ∷ 0xff ∷ 0xa2 ∷ 0xa3 ∷ [])) ∷ [])
+    ∷ wear (0 ∷ 0 ∷ 1 ∷ 0 ∷ []) shows []
+    ∷ command (4 ∷ 19 ∷ 0 ∷ 0 ∷ []) shows (refused 3 ∷ actions 17 ∷ window Closed 0 0 ∷ marks [] ∷ pending 0 0 ∷ memory (blocks (0x31 ∷ 0x32 ∷ [])) ∷ flash (blocks (0xa0 ∷ 0x31 ∷ 0xa2 ∷ 0xa3 ∷ [])) ∷ [])
+    ∷ command (6 ∷ 20 ∷ 1 ∷ 0 ∷ []) shows (code 1 ∷ arguments (16 ∷ 0 ∷ 2 ∷ 0 ∷ 1 ∷ 0 ∷ []) ∷ actions 0 ∷ window Write 1 2 ∷ memory (blocks (0x31 ∷ 0xa2 ∷ [])) ∷ [])
+    ∷ command (10 ∷ 21 ∷ 0 ∷ 0 ∷ 2 ∷ 0 ∷ []) shows (marks (2 ∷ 2 ∷ []) ∷ [])
+    ∷ write (blocks (0x41 ∷ 0x42 ∷ [])) shows []
+    ∷ command (6 ∷ 22 ∷ 4 ∷ 0 ∷ []) shows (refused 3 ∷ actions 1 ∷ window Closed 0 0 ∷ marks [] ∷ memory (blocks (0x41 ∷ 0x42 ∷ [])) ∷ flash (blocks (0xa0 ∷ 0xff ∷ 0xa2 ∷ 0xa3 ∷ [])) ∷ [])
+    ∷ command (6 ∷ 23 ∷ 4 ∷ 0 ∷ []) shows (refused 2 ∷ actions 0 ∷ window Closed 0 0 ∷ [])
+    ∷ command (2 ∷ 24 ∷ 1 ∷ []) shows (version 1 ∷ [])
+    ∷ command (6 ∷ 25 ∷ 1 ∷ 0 ∷ []) shows (code 1 ∷ window Write 1 2 ∷ [])
+    ∷ write (blocks (0x51 ∷ 0x52 ∷ [])) shows []
+    ∷ command (8 ∷ 26 ∷ 1 ∷ 0 ∷ 0x01 ∷ 0x20 ∷ 0 ∷ 0 ∷ []) shows (refused 2 ∷ actions 0 ∷ marks [] ∷ [])
+    ∷ command (8 ∷ 27 ∷ 1 ∷ 0 ∷ 0x00 ∷ 0x20 ∷ 0 ∷ 0 ∷ []) shows (refused 3 ∷ actions 17 ∷ window Write 1 2 ∷ marks (0 ∷ 1 ∷ []) ∷ pending 1 17 ∷ flash (blocks (0xa0 ∷ 0x51 ∷ 0xa2 ∷ 0xa3 ∷ [])) ∷ [])
+    ∷ command (8 ∷ 28 ∷ []) shows (refused 3 ∷ actions 0 ∷ window Write 1 2 ∷ marks (0 ∷ 1 ∷ []) ∷ [])
+    ∷ command (5 ∷ 29 ∷ 2 ∷ []) shows (refused 3 ∷ actions 0 ∷ window Write 1 2 ∷ marks (0 ∷ 1 ∷ []) ∷ [])
+    ∷ wear (0 ∷ 0 ∷ 0 ∷ []) shows []
+    ∷ command (8 ∷ 30 ∷ []) shows (refused 4 ∷ actions 0 ∷ window Write 1 2 ∷ marks (0 ∷ 1 ∷ []) ∷ pending 1 17 ∷ memory (blocks (0x51 ∷ 0x52 ∷ [])) ∷ flash (blocks (0xa0 ∷ 0x51 ∷ 0xa2 ∷ 0xa3 ∷ [])) ∷ [])
+    ∷ command (2 ∷ 30 ∷ 2 ∷ []) shows (refused 4 ∷ version 1 ∷ [])
+    ∷ step 0 shows (code 4 ∷ actions 0 ∷ [])
+    ∷ markList [] shows (unnamed 4 ∷ [])
+    ∷ wear (0 ∷ 0 ∷ 0 ∷ 0 ∷ 0 ∷ []) shows []
+    ∷ command (5 ∷ 29 ∷ []) shows (refused 4 ∷ actions 0 ∷ window Write 1 2 ∷ marks (0 ∷ 1 ∷ []) ∷ [])
+    ∷ step 0 shows (code 4 ∷ actions 0 ∷ [])
+    ∷ markList (0 ∷ 1 ∷ []) shows (unnamed 4 ∷ marks (0 ∷ 1 ∷ []) ∷ [])
+    ∷ wear [] shows []
+    ∷ command (6 ∷ 31 ∷ 4 ∷ 0 ∷ []) shows (refused 4 ∷ actions 0 ∷ window Write 1 2 ∷ marks (0 ∷ 1 ∷ []) ∷ [])
+    ∷ suspend shows (code 1 ∷ [])
+    ∷ step 0 shows (code 4 ∷ actions 0 ∷ flash (blocks (0xa0 ∷ 0x51 ∷ 0xa2 ∷ 0xa3 ∷ [])) ∷ [])
+    ∷ markList (0 ∷ 1 ∷ []) shows (unnamed 4 ∷ marks (0 ∷ 1 ∷ []) ∷ [])
+    ∷ resume shows (code 1 ∷ [])
+    ∷ wear good shows []
+    ∷ command (5 ∷ 29 ∷ []) shows (refused 2 ∷ actions 0 ∷ window Write 1 2 ∷ marks (0 ∷ 1 ∷ []) ∷ [])
+    ∷ command (8 ∷ 30 ∷ []) shows (code 1 ∷ arguments [] ∷ actions 17 ∷ window Write 1 2 ∷ marks [] ∷ pending 0 0 ∷ flash (blocks (0xa0 ∷ 0x51 ∷ 0x52 ∷ 0xa3 ∷ [])) ∷ [])
+    ∷ []
+
 -- the twelve, and those
 unfoldable pub examples : List Example
 examples =
     example1 ∷ example2 ∷ example3 ∷ example4 ∷ example5 ∷ example6 ∷ example7 ∷ example8 ∷ example9 ∷ example10 ∷ example11 ∷ example12
-    ∷ example13 ∷ example14 ∷ example15 ∷ example16 ∷ example17
+    ∷ example13 ∷ example14 ∷ example15 ∷ example16 ∷ example17 ∷ example18
     ∷ []
 
 -- "The twelve examples are proved from the definitions by a single statement over a single list": its proof is `all-hold`, in proofs/AllHold.antt
