@@ -196,8 +196,8 @@ window-as-said setup registers m a =
           (flush-ends same registers flushes (λ _. flushing-window (m .session) registers (flushWhole flushes .marks) (flushMarks (m .session) registers))
           (λ _. flushing-window (m .session) registers clean (flushMarks (m .session) registers))))
           (λ c. by-row setup registers m a same 10 c (record { window = refl; first = refl; size = refl }))),
-      λ c. by-row setup registers m a (λ (o : Outcome). NoWindow (o .machine .session)) 1 c (unwindowed _),
-      λ c. by-row setup registers m a (With setup registers m a 1 NoWindow) 5 c (close-window setup registers m a 1 NoWindow (λ q. absurd (three-one q)) (λ _. unwindowed _)),
+      λ c. by-row setup registers m a (λ (o : Outcome). NoWindow (o .machine .session)) 1 c (unwindowed (numbered (m .session) registers)),
+      λ c. by-row setup registers m a (With setup registers m a 1 NoWindow) 5 c (close-window setup registers m a 1 NoWindow (λ q. absurd (three-one q)) (λ _. unwindowed (numbered (m .session) registers))),
       λ c.
           by-row setup registers m a (With setup registers m a 3 (SameWindow (m .session))) 5 c
           (close-window setup registers m a 3 (SameWindow (m .session)) (λ _. record { window = refl; first = refl; size = refl }) (λ q. absurd (one-three q))),
@@ -205,6 +205,6 @@ window-as-said setup registers m a =
       λ c. by-row setup registers m a (With setup registers m a 1 (opens Write)) 6 c (create-window setup registers m a 1 (opens Write) Write (λ q. absurd (three-one q)) (λ _. (refl, refl))),
       λ c.
           create-either (λ _. With setup registers m a 3 NoWindow (mediate setup registers m)) (commandOf registers) c
-          (λ e. by-row setup registers m a (With setup registers m a 3 NoWindow) 4 e (create-window setup registers m a 3 NoWindow Read (λ _. unwindowed _) (λ q. absurd (one-three q))))
-          (λ e. by-row setup registers m a (With setup registers m a 3 NoWindow) 6 e (create-window setup registers m a 3 NoWindow Write (λ _. unwindowed _) (λ q. absurd (one-three q)))),
+          (λ e. by-row setup registers m a (With setup registers m a 3 NoWindow) 4 e (create-window setup registers m a 3 NoWindow Read (λ _. unwindowed (numbered (m .session) registers)) (λ q. absurd (one-three q))))
+          (λ e. by-row setup registers m a (With setup registers m a 3 NoWindow) 6 e (create-window setup registers m a 3 NoWindow Write (λ _. unwindowed (numbered (m .session) registers)) (λ q. absurd (one-three q)))),
     )

@@ -31,7 +31,7 @@ use Rattle.mailbox.proofs.Ends.{close-ends, flush-ends, open-ends}
 use Rattle.mailbox.proofs.Mediating.{each-command, each-answer}
 
 -- a range has at most the bytes that are asked for
-range-few : (at n : ℕ) (xs : List ℕ) → length (range at n xs) ≤ n
+pub range-few : (at n : ℕ) (xs : List ℕ) → length (range at n xs) ≤ n
 range-few at n xs = let long = length-take n (drop at xs) in omega arith
 
 module _ (setup : Setup) (s : Session) (registers flash worn memory : List ℕ) where

@@ -23,7 +23,7 @@ use Rattle.session.specs.Machine.{Setup, Machine, lent}
 use Rattle.session.specs.Record.{fresh, withVersion, withWindow}
 use Rattle.soundness.specs.Soundness.{activeSound, windowSound, marksSound, soundAt, soundIn}
 use Rattle.soundness.proofs.Facts.{part-within, Measured, measured}
-use Rattle.session.specs.Marks.{dirty, erasedMark}
+use Rattle.session.specs.Marks.{dirty, erasedMark, isMarked}
 use Rattle.registers.specs.Registers.{sequenceOf, number}
 use Rattle.mailbox.specs.Commands.{numbered, sizeFor}
 use Rattle.mailbox.specs.Runs.{Call, send, write, written, called, calledAll}
@@ -31,7 +31,7 @@ use Rattle.invariants.proofs.Runs.{write-within, run-keeps}
 use Rattle.recovery.specs.Cut.{cut}
 use Rattle.recovery.specs.Recipe.{getInfo, reopen, markDirty, markErased, former, restored, restoredFrom, recipe, flushAll, ByRecipe, Recovers}
 use Rattle.mailbox.specs.Mediator.{response}
-use Rattle.recovery.specs.Second.{sent, AllAllowed, Way, bySteps, byFlush, Succeeds, begun, agreeing, opening, marking}
+use Rattle.recovery.specs.Second.{sent, AllAllowed, Way, bySteps, byFlush, Succeeds, MeetsNone, begun, agreeing, opening, marking}
 use Rattle.recovery.proofs.Demand.{demand-3}
 use Rattle.recovery.proofs.FirstList.{marks-sound}
 use Rattle.recovery.proofs.MarksAgain.{mark-most, mark-past, mark-more, mark-none}
@@ -51,17 +51,17 @@ append-called setup (x ∷ xs) ys m = append-called setup xs ys (called setup x 
 neither : (mark : ℕ) → mark ≤ 2 → (mark ≡ 1 → ⊥) → (mark ≡ 2 → ⊥) → mark ≡ 0
 neither mark h p q = omega arith
 
-module _ (setup : Setup) (s : Session) (flash worn memory : List ℕ) (sounds : soundAt setup (length flash) (length memory) s ≡ true) (w : s .window ≡ Write)
-    (many : length (s .marks) ≡ 64) where
+module _ (setup : Setup) (s : Session) (flash worn memory : List ℕ) (sounds : soundAt setup (length flash) (length worn) (length memory) s ≡ true) (w : s .window ≡ Write)
+    (many : length (s .marks) ≡ 64) (good : MeetsNone worn s) where
   -- what the session and the sizes tell
-  d : Measured (length flash) (length memory) s
-  d = measured setup (length flash) (length memory) s sounds
+  d : Measured (length flash) (length worn) (length memory) s
+  d = measured setup (length flash) (length worn) (length memory) s sounds
 
   fine : marksSound (s .size) (s .marks) ≡ true
-  fine = marks-sound s flash memory (d .sound) w
+  fine = marks-sound s flash worn memory (d .sound) w
 
   room : toBytes (s .size) ≤ length memory
-  room = part-within (length flash) (length memory) s (d .sound) .1
+  room = part-within (length flash) (length worn) (length memory) s (d .sound) .1
 
   active : activeSound (s .first) (s .size) (roundUp (length flash)) (roundUp (length memory)) ≡ true
   active = subst (λ (k : Window). windowSound k (s .first) (s .size) (roundUp (length flash)) (roundUp (length memory)) ≡ true) w (d .fits .window)
@@ -81,7 +81,7 @@ module _ (setup : Setup) (s : Session) (flash worn memory : List ℕ) (sounds : 
 
   -- ---- between two blocks of the recipe: the first b are done, k are ahead
   record Ready (b k : ℕ) (m : Machine) : Type 0 where
-    opened : Open (s .first) (s .size) (length memory) flash m
+    opened : Open (s .first) (s .size) (length memory) flash worn m
     sound-so-far : soundIn setup m ≡ true
     number : ℕ
     previous : m .session .previous ≡ Number number
@@ -90,7 +90,7 @@ module _ (setup : Setup) (s : Session) (flash worn memory : List ℕ) (sounds : 
     held : Held b (m .memory)
 
   -- such a machine takes the next number, also with other bytes in its window
-  serving : (b k : ℕ) (m : Machine) (r : Ready b k m) (n : Machine) → n .session ≡ m .session → Open (s .first) (s .size) (length memory) flash n
+  serving : (b k : ℕ) (m : Machine) (r : Ready b k m) (n : Machine) → n .session ≡ m .session → Open (s .first) (s .size) (length memory) flash worn n
       → soundIn setup n ≡ true → Serving setup (r .number) n
   serving b k m r n same o sounds =
       record {
@@ -101,9 +101,9 @@ module _ (setup : Setup) (s : Session) (flash worn memory : List ℕ) (sounds : 
       }
 
   -- the window stays open
-  opens : (calls : List Call) → AllAllowed (s .size) calls → (m : Machine) → Open (s .first) (s .size) (length memory) flash m
-      → Open (s .first) (s .size) (length memory) flash (calledAll setup calls m)
-  opens = calls-open setup (s .first) (s .size) (length memory) flash room
+  opens : (calls : List Call) → AllAllowed (s .size) calls → (m : Machine) → Open (s .first) (s .size) (length memory) flash worn m
+      → Open (s .first) (s .size) (length memory) flash worn (calledAll setup calls m)
+  opens = calls-open setup (s .first) (s .size) (length memory) flash worn room
 
   -- what a list of calls does for some blocks
   record Carries (b k c l : ℕ) (calls : List Call) : Type 0 where
@@ -158,7 +158,7 @@ module _ (setup : Setup) (s : Session) (flash worn memory : List ℕ) (sounds : 
     -- after the command that marks it
     marked-block : (m n : Machine) → Ready b (suc k) m → (registers : List ℕ) (mark : ℕ) (bytes : List ℕ) → getD (s .marks) b 0 ≡ mark
         → n ≡ markedAs m registers (replace b (mark ∷ []) (m .session .marks)) bytes → sequenceOf registers ≡ 2 + b
-        → Open (s .first) (s .size) (length memory) flash n → soundIn setup n ≡ true → Held (suc b) bytes → Ready (suc b) k n
+        → Open (s .first) (s .size) (length memory) flash worn n → soundIn setup n ≡ true → Held (suc b) bytes → Ready (suc b) k n
     marked-block m n r registers mark bytes e left q o sounds h =
         record {
           opened = o;
@@ -172,7 +172,7 @@ module _ (setup : Setup) (s : Session) (flash worn memory : List ℕ) (sounds : 
         }
 
     -- a marked block is one of the window that is open
-    reach : (m : Machine) → Open (s .first) (s .size) (length memory) flash m → (mark : ℕ) → getD (s .marks) b 0 ≡ suc mark → b < m .session .size
+    reach : (m : Machine) → Open (s .first) (s .size) (length memory) flash worn m → (mark : ℕ) → getD (s .marks) b 0 ≡ suc mark → b < m .session .size
     reach m o mark e = rw (o .size-is) (within b mark e)
 
     -- a dirty one: its former bytes are written, then it is marked
@@ -276,18 +276,18 @@ module _ (setup : Setup) (s : Session) (flash worn memory : List ℕ) (sounds : 
 
   -- ---- the window is opened again, on a machine that was found with some other window memory
   module _ (other : List ℕ) (other-size : length other ≡ length memory) where
-    begun-sound : soundIn setup (begun flash other) ≡ true
-    begun-sound = fresh-as setup (length flash) (length memory) s sounds (length flash) (length other) refl other-size
+    begun-sound : soundIn setup (begun flash worn other) ≡ true
+    begun-sound = fresh-as setup (length flash) (length worn) (length memory) s sounds (length flash) (length worn) (length other) refl refl other-size
 
     -- GET_INFO
-    info-ok : response setup getInfo (begun flash other) ≡ 1
-    info-ok = info-taken setup flash other begun-sound
+    info-ok : response setup getInfo (begun flash worn other) ≡ 1
+    info-ok = info-taken setup flash worn other begun-sound
 
     abbrev agreed : Machine
-    agreed = lent (withVersion 2 (numbered fresh getInfo)) flash other
+    agreed = lent (withVersion 2 (numbered fresh getInfo)) flash worn other
 
-    left : agreeing setup getInfo flash other ≡ agreed
-    left = info-leaves setup getInfo flash other refl info-ok
+    left : agreeing setup getInfo flash worn other ≡ agreed
+    left = info-leaves setup getInfo flash worn other info-ok refl
 
     -- CREATE_WRITE_WINDOW
     record Reopened (m : Machine) : Type 0 where
@@ -301,8 +301,8 @@ module _ (setup : Setup) (s : Session) (flash worn memory : List ℕ) (sounds : 
           ready =
               record {
                 opened =
-                    subst (λ (n : ℕ). Open (s .first) (s .size) n flash (sent setup (reopen s) agreed)) other-size
-                    (create-opens setup (agreed .session) (reopen s) flash other refl taken refl (s .first) (s .size) refl refl
+                    subst (λ (n : ℕ). Open (s .first) (s .size) n flash worn (sent setup (reopen s) agreed)) other-size
+                    (create-opens setup (agreed .session) (reopen s) flash worn other refl taken refl (s .first) (s .size) refl refl
                     (ap (λ (t : Session). t .first) window) (ap (λ (t : Session). t .size) window));
                 sound-so-far = run-keeps setup (send (reopen s) ∷ []) agreed (serves .sounds);
                 number = 1;
@@ -316,7 +316,7 @@ module _ (setup : Setup) (s : Session) (flash worn memory : List ℕ) (sounds : 
         serves : Serving setup 0 agreed
         serves =
             record {
-              sounds = subst (λ (m : Machine). soundIn setup m ≡ true) left (run-keeps setup (send getInfo ∷ []) (begun flash other) begun-sound);
+              sounds = subst (λ (m : Machine). soundIn setup m ≡ true) left (run-keeps setup (send getInfo ∷ []) (begun flash worn other) begun-sound);
               agreed = refl;
               awake = refl;
               previous = refl;
@@ -329,35 +329,50 @@ module _ (setup : Setup) (s : Session) (flash worn memory : List ℕ) (sounds : 
         within-flash = rw first-word (omega (arith, some, d .fits .in-flash))
 
         taken : response setup (reopen s) agreed ≡ 1
-        taken = create-taken setup 0 agreed serves (reopen s) (omega arith) refl within-flash
+        taken = create-taken setup 0 agreed serves (reopen s) (omega arith) refl within-flash refl
 
         window : sent setup (reopen s) agreed .session ≡ withWindow Write (s .first) (s .size) (numbered (agreed .session) (reopen s))
         window =
-            create-session setup 0 agreed serves (reopen s) (omega arith) refl within-flash (s .first) (s .size) first-word
+            create-session setup 0 agreed serves (reopen s) (omega arith) refl within-flash refl (s .first) (s .size) first-word
             (ap (sizeFor (roundUp (length flash)) (roundUp (length other)) (s .first)) (word (s .size) (omega (arith, few)))
             ∙ hinted (roundUp (length flash)) (roundUp (length other)) (s .first) (s .size) some (rw other-size (d .fits .in-memory)) (d .fits .in-flash))
 
     -- the list, and FLUSH
-    again : Reopened (agreeing setup getInfo flash other)
+    again : Reopened (agreeing setup getInfo flash worn other)
     again = subst Reopened (sym left) reopened
 
     carried : Carries 0 64 64 0 (recipe s memory)
     carried = subst (λ (n : ℕ). Carries 0 n 64 0 (recipe s memory)) many (blocks 0 (s .marks) refl (omega arith))
 
     abbrev end : Machine
-    end = marking setup getInfo (reopen s) (recipe s memory) flash other
+    end = marking setup getInfo (reopen s) (recipe s memory) flash worn other
 
     ended : Ready 64 0 end
-    ended = carried .goes (opening setup getInfo (reopen s) flash other) (again .ready)
+    ended = carried .goes (opening setup getInfo (reopen s) flash worn other) (again .ready)
+
+    -- the marks are those of the session, and none of their blocks is worn
+    same-marks : end .session .marks ≡ s .marks
+    same-marks = ended .marks ∙ append-nil (take 64 (s .marks)) ∙ take-all 64 (s .marks) (omega arith)
+
+    meets-none : MeetsNone (end .worn) (end .session)
+    meets-none b h =
+        ap (λ (map : List ℕ). getD map (end .session .first + b) 0) (ended .opened .map-is)
+        ∙ ap (λ (n : ℕ). getD worn (n + b) 0) (ended .opened .first-is)
+        ∙ good b (ap (λ (marks : List ℕ). isMarked (getD marks b 0)) (sym same-marks) ∙ h)
 
     flushes : Succeeds setup (byFlush flushAll) end
-    flushes = (refl, flush-taken setup (ended .number) end (serving 64 0 end ended end refl (ended .opened) (ended .sound-so-far)) flushAll (ended .earlier) refl (ended .opened .window))
+    flushes = (
+      refl,
+      flush-taken setup (ended .number) end (serving 64 0 end ended end refl (ended .opened) (ended .sound-so-far)) flushAll (ended .earlier) refl (ended .opened .window) meets-none,
+    )
 
-    second : (flash₀ : List ℕ) (way : Way) → Succeeds setup way end → ByRecipe setup (lent s flash₀ memory) flash other way
-    second flash₀ way ok =
+    second : (flash₀ worn₀ : List ℕ) (way : Way) → Succeeds setup way end → ByRecipe setup (lent s flash₀ worn₀ memory) flash worn other way
+    second flash₀ worn₀ way ok =
         record {
           run =
               record {
+                worn = worn;
+                good = good;
                 other = other;
                 other-size = other-size;
                 info = getInfo;
@@ -371,11 +386,12 @@ module _ (setup : Setup) (s : Session) (flash worn memory : List ℕ) (sounds : 
                 same-size = again .ready .opened .size-is;
                 calls = recipe s memory;
                 allowed = carried .allowed;
-                same-marks = ended .marks ∙ append-nil (take 64 (s .marks)) ∙ take-all 64 (s .marks) (omega arith);
+                same-marks = same-marks;
                 same-bytes = λ x p. let e = eqb-true (getD (s .marks) (x / blockBytes) 0) dirty p in ended .held x (let h = within (x / blockBytes) 0 e in omega (arith, few)) e;
                 way = way;
                 way-succeeds = ok;
               };
+          worn-is = refl;
           other-is = refl;
           info-is = refl;
           create-is = refl;
@@ -385,12 +401,12 @@ module _ (setup : Setup) (s : Session) (flash worn memory : List ℕ) (sounds : 
 
 -- the statement stands in specs/Recipe.antt
 pub recovers : Recovers
-recovers setup m sounds w many list other other-size =
+recovers setup m sounds w many list worn other worn-size good other-size =
     let s = m .session in
     let memory = m .memory in
     let f = cut m list .machine .flash in
     let same : length f ≡ length (m .flash) = demand-3 setup m sounds w list .0 .flash-size in
-    let sounds₁ : soundAt setup (length f) (length memory) s ≡ true = ap (λ (n : ℕ). soundAt setup n (length memory) s) same ∙ sounds in (
-      second setup s f memory sounds₁ w many other other-size (m .flash) bySteps tt,
-      second setup s f memory sounds₁ w many other other-size (m .flash) (byFlush flushAll) (flushes setup s f memory sounds₁ w many other other-size),
+    let sounds₁ : soundAt setup (length f) (length worn) (length memory) s ≡ true = rw (same, worn-size) sounds in (
+      second setup s f worn memory sounds₁ w many good other other-size (m .flash) (m .worn) bySteps tt,
+      second setup s f worn memory sounds₁ w many good other other-size (m .flash) (m .worn) (byFlush flushAll) (flushes setup s f worn memory sounds₁ w many good other other-size),
     )

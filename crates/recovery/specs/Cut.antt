@@ -1,4 +1,4 @@
--- The first list of demand 3, up to the cut: document 00, demand 3, and document 01, "Chip actions".
+-- The first list of demand 3, up to the cut: document 00, demand 3, document 01, "Chip actions", and 02, Ticket 8.
 use Prim.Native.Nat.{ℕ, _+_, _-_, _<_}
 use mathlib.Core.Bool.{Bool, true, false, cond, not, _&&_}
 use mathlib.Core.List.{List, [], _∷_}
@@ -12,7 +12,7 @@ use Rattle.session.specs.Marks.{isMarked}
 use Rattle.session.specs.Record.{withAccess}
 use Rattle.session.specs.Suspension.{suspended, resumed}
 use Rattle.flush.specs.Cut.{passed, ahead, progress, blockAt, leaves}
-use Rattle.flush.specs.Window.{windowActions, windowPart, partEnd, advanced}
+use Rattle.flush.specs.Window.{windowActions, windowPart, partEnd, doneActions, flushFails, advanced}
 use Rattle.mailbox.specs.Runs as runs
 
 -- "any list of flush steps, suspends and resumes without changed flash"
@@ -29,19 +29,19 @@ pub data Said : Type 0 where
   stepped : ℕ → Bool → Said
   told : Bool → Said
 
--- "A count j starts at 0; a step while not suspended adds 1 if j < N"
+-- "A count j starts at 0; a step while not suspended adds 1 if j < N": up to N, or up to the erase that fails, "where 01's count j stays" (02, Ticket 8)
 abbrev pub counted : ℕ → Bool → ℕ → ℕ
-counted N isSuspended j = cond (not isSuspended && ltb j N) (j + 1) j
+counted most isSuspended j = cond (not isSuspended && ltb j most) (j + 1) j
 
 -- one call: "A step is given j". A step changes only the flash, suspend and resume only the session
 abbrev pub after : ℕ → FirstCall → State → State
-after N step s =
+after most step s =
     record {
-      machine = lent (s .machine .session) (advanced (s .machine) (s .count) .flash) (s .machine .memory);
-      count = counted N (s .machine .session .suspended) (s .count);
+      machine = lent (s .machine .session) (advanced (s .machine) (s .count) .flash) (s .machine .worn) (s .machine .memory);
+      count = counted most (s .machine .session .suspended) (s .count);
     }
-after N suspend s = record { machine = holding (suspended (s .machine .session) .session) (s .machine); count = s .count }
-after N resume s = record { machine = holding (resumed (s .machine .session) .session) (s .machine); count = s .count }
+after most suspend s = record { machine = holding (suspended (s .machine .session) .session) (s .machine); count = s .count }
+after most resume s = record { machine = holding (resumed (s .machine .session) .session) (s .machine); count = s .count }
 
 -- its answer
 abbrev pub answer : FirstCall → State → Said
@@ -51,22 +51,25 @@ answer resume s = told (resumed (s .machine .session) .done)
 
 -- a list of them: "every call gets what the one before left"
 abbrev pub afterAll : ℕ → List FirstCall → State → State
-afterAll N [] s = s
-afterAll N (e ∷ list) s = afterAll N list (after N e s)
+afterAll most [] s = s
+afterAll most (e ∷ list) s = afterAll most list (after most e s)
 
 -- and its answers
 abbrev pub answers : ℕ → List FirstCall → State → List Said
-answers N [] s = []
-answers N (e ∷ list) s = answer e s ∷ answers N list (after N e s)
+answers most [] s = []
+answers most (e ∷ list) s = answer e s ∷ answers most list (after most e s)
 
--- the answers that document 01 gives: "A step .. answers 6 while suspended, otherwise 1, with yes exactly if it adds"; "Suspending twice, or
--- resuming when not suspended, .. answers no; otherwise they answer yes"
-abbrev pub expected : ℕ → List FirstCall → Bool → ℕ → List Said
-expected N [] isSuspended j = []
-expected N (step ∷ list) isSuspended j =
-    cond isSuspended (stepped 6 false) (stepped 1 (ltb j N)) ∷ expected N list isSuspended (counted N isSuspended j)
-expected N (suspend ∷ list) isSuspended j = told (not isSuspended) ∷ expected N list true j
-expected N (resume ∷ list) isSuspended j = told isSuspended ∷ expected N list false j
+-- the answers that the papers give. "A step .. answers 6 while suspended, otherwise 1, with yes exactly if it adds"; where an erase fails the count stays
+-- before it, and steps there "answer 3, or 6 when suspended" (02, Ticket 8)
+abbrev pub stepSaid : ℕ → Bool → Bool → ℕ → Said
+stepSaid most fails isSuspended j = cond isSuspended (stepped 6 false) (cond (ltb j most) (stepped 1 true) (stepped (cond fails 3 1) false))
+
+-- "Suspending twice, or resuming when not suspended, .. answers no; otherwise they answer yes"
+abbrev pub expected : ℕ → Bool → List FirstCall → Bool → ℕ → List Said
+expected most fails [] isSuspended j = []
+expected most fails (step ∷ list) isSuspended j = stepSaid most fails isSuspended j ∷ expected most fails list isSuspended (counted most isSuspended j)
+expected most fails (suspend ∷ list) isSuspended j = told (not isSuspended) ∷ expected most fails list true j
+expected most fails (resume ∷ list) isSuspended j = told isSuspended ∷ expected most fails list false j
 
 -- the session as the suspends and resumes of a list leave it: the steps leave it alone
 abbrev pub accessAfter : List FirstCall → Session → Session
@@ -79,13 +82,17 @@ accessAfter (resume ∷ list) s = accessAfter list (resumed s .session)
 abbrev pub actionsOf : Session → ℕ
 actionsOf s = length (windowActions s)
 
+-- how many are done before an erase fails: all N where none does
+abbrev pub reachOf : Machine → ℕ
+reachOf m = length (doneActions m)
+
 -- the state at the first list's start
 abbrev pub start : Machine → State
 start m = record { machine = m; count = 0 }
 
 -- and after the list, where the cut falls
 abbrev pub cut : Machine → List FirstCall → State
-cut m list = afterAll (actionsOf (m .session)) list (start m)
+cut m list = afterAll (reachOf m) list (start m)
 
 -- the list as a run of calls: "A step is given j"
 abbrev pub callFor : FirstCall → ℕ → runs.Call
@@ -94,8 +101,8 @@ callFor suspend j = runs.suspend
 callFor resume j = runs.resume
 
 abbrev pub callsOf : ℕ → List FirstCall → State → List runs.Call
-callsOf N [] s = []
-callsOf N (e ∷ list) s = callFor e (s .count) ∷ callsOf N list (after N e s)
+callsOf most [] s = []
+callsOf most (e ∷ list) s = callFor e (s .count) ∷ callsOf most list (after most e s)
 
 -- the byte of the flash at x lies in a marked block
 abbrev pub inMarked : Session → ℕ → Bool
@@ -109,10 +116,10 @@ Kept s t = t ≡ withAccess (t .suspended) (t .events) s
 
 -- what holds at the cut, of the machine at the first list's start
 pub record AtCut (m : Machine) (list : List FirstCall) : Type 0 where
-  -- "For every such list the answers are those of document 01"
-  pub answered : answers (actionsOf (m .session)) list (start m) ≡ expected (actionsOf (m .session)) list (m .session .suspended) 0
+  -- "For every such list the answers are those of document 01", with Ticket 8's
+  pub answered : answers (reachOf m) list (start m) ≡ expected (reachOf m) (flushFails m) list (m .session .suspended) 0
   -- "every call gets what the one before left": the machine is that of a run of these calls
-  pub as-run : (setup : Setup) → cut m list .machine ≡ runs.calledAll setup (callsOf (actionsOf (m .session)) list (start m)) m
+  pub as-run : (setup : Setup) → cut m list .machine ≡ runs.calledAll setup (callsOf (reachOf m) list (start m)) m
   -- "It holds what its actions among the first j make of its old bytes"
   pub blocks : (b : ℕ) → b < m .session .size
       → blockAt b (windowPart (m .session) (cut m list .machine .flash))
@@ -127,7 +134,8 @@ pub record AtCut (m : Machine) (list : List FirstCall) : Type 0 where
   -- "every other byte is as before"
   pub others : (x : ℕ) → inMarked (m .session) x ≡ false → getD (cut m list .machine .flash) x 0 ≡ getD (m .flash) x 0
   pub flash-size : length (cut m list .machine .flash) ≡ length (m .flash)
-  -- the session and the window memory
+  -- the session, the window memory and the map
   pub session : cut m list .machine .session ≡ accessAfter list (m .session)
   pub kept : Kept (m .session) (cut m list .machine .session)
   pub memory-same : cut m list .machine .memory ≡ m .memory
+  pub map-same : cut m list .machine .worn ≡ m .worn

@@ -17,7 +17,7 @@ use Rattle.registers.specs.Registers.{bytesOf}
 use Rattle.mailbox.specs.Runs.{Call, send, write}
 use Rattle.mailbox.specs.Table as table
 use Rattle.recovery.specs.Cut.{FirstCall, cut}
-use Rattle.recovery.specs.Second.{Way, bySteps, byFlush, SecondRun}
+use Rattle.recovery.specs.Second.{Way, bySteps, byFlush, MeetsNone, SecondRun}
 
 -- the 16 registers of a command: its code, its sequence number, and two 16-bit arguments
 abbrev pub command : ℕ → ℕ → ℕ → ℕ → List ℕ
@@ -61,21 +61,22 @@ recipe s memory = restoredFrom memory 0 (s .marks)
 abbrev pub flushAll : List ℕ
 flushAll = command (table.flush .code) 66 0 0
 
--- a second run that is this recovery, on a machine that was found with some other window memory
-pub record ByRecipe (setup : Setup) (m : Machine) (flash other : List ℕ) (way : Way) : Type 0 where
+-- a second run that is this recovery, on a machine that was found with some other window memory and has a map of its own
+pub record ByRecipe (setup : Setup) (m : Machine) (flash worn other : List ℕ) (way : Way) : Type 0 where
   pub run : SecondRun setup m flash
+  pub worn-is : run .worn ≡ worn
   pub other-is : run .other ≡ other
   pub info-is : run .info ≡ getInfo
   pub create-is : run .create ≡ reopen (m .session)
   pub calls-are : run .calls ≡ recipe (m .session) (m .memory)
   pub way-is : run .way ≡ way
 
--- for every sound session with a write window, every first list and every window memory found after the cut there is one, by steps and by
--- FLUSH. That there are 64 marks is a hypothesis of this claim alone: every session record of the code has 64, and so has every second run; of
+-- for every sound session with a write window, every first list, every window memory found after the cut and every map of the same length in which no marked
+-- block is worn there is one, by steps and by FLUSH. That there are 64 marks is a hypothesis of this claim alone: every session record of the code has 64, and so has every second run; of
 -- marks of another length, which only the definitions can have, demand 3's second half says nothing
 abbrev pub Recovers : Type 0
 Recovers =
     (setup : Setup) (m : Machine) → soundIn setup m ≡ true → m .session .window ≡ Write → length (m .session .marks) ≡ 64
-    → (list : List FirstCall) (other : List ℕ) → length other ≡ length (m .memory)
-    → ByRecipe setup m (cut m list .machine .flash) other bySteps
-    × ByRecipe setup m (cut m list .machine .flash) other (byFlush flushAll)
+    → (list : List FirstCall) (worn other : List ℕ) → length worn ≡ length (m .worn) → MeetsNone worn (m .session) → length other ≡ length (m .memory)
+    → ByRecipe setup m (cut m list .machine .flash) worn other bySteps
+    × ByRecipe setup m (cut m list .machine .flash) worn other (byFlush flushAll)
