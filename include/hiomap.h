@@ -3,21 +3,25 @@
  * board` and, for hiomap_message, `rt staticlib ipmiboard`, and link target/staticlib/libboard.a and libipmiboard.a
  * (x86-64 Linux).
  *
- * Ownership. The caller owns everything: the record of the session, the registers, a message, the flash image, the
- * window memory and a list of marks. A call borrows what it is given and keeps nothing of it when it returns; there is
- * no hidden state and no allocation, so several records may be in use side by side. Functions that take
- * a record by value leave the caller's alone; a suspend or resume gives the new one back.
+ * Ownership. The caller owns everything: the record of the session, the registers, a message, the flash image, its map
+ * of worn blocks, the window memory and a list of marks. A call borrows what it is given and keeps nothing of it when
+ * it returns; there is no hidden state and no allocation, so several records may be in use side by side. Functions that
+ * take a record by value leave the caller's alone; a suspend or resume gives the new one back.
+ *
+ * Worn blocks. The flash driver keeps a map of them, one byte for each flash block: 0 good, any other value worn. The
+ * map is only read, and the driver may change it between the calls. Its length must be the number of flash blocks. An
+ * erase of a worn block fails and changes nothing, and a flush stops there; writing pages never fails.
  *
  * What the caller must see to, since nothing here can check it:
  *   - pointers are not null, aligned for their type, and lead to initialised memory of the stated size,
  *     also where a length is 0;
- *   - no two of the things that one call borrows overlap (record, registers, message, flash, window memory, list), and
- *     nobody else writes to them during the call: an interrupt or another thread must wait. The window
+ *   - no two of the things that one call borrows overlap (record, registers, message, flash, map, window memory,
+ *     list), and nobody else writes to them during the call: an interrupt or another thread must wait. The window
  *     memory is written by the host between the calls, and not during one.
- * Every value is taken: any content of the record, the registers, a message and a list and any length gets the
+ * Every value is taken: any content of the record, the registers, a message, the map and a list and any length gets the
  * answer that the rules give it: for a command, a list of marks and a step SYSTEM_ERROR (4) where the record or the
- * sizes are not sound, and for a command and a list also where lpc and the blocks of the window memory together are
- * above 65,536; a message that holds a command is answered as the command is.
+ * sizes, the map's among them, are not sound, and for a command and a list also where lpc and the blocks of the window
+ * memory together are above 65,536; a message that holds a command is answered as the command is.
  */
 #ifndef HIOMAP_H
 #define HIOMAP_H
@@ -69,6 +73,7 @@ extern "C" {
 /* The responses. */
 #define HIOMAP_SUCCESS 1
 #define HIOMAP_PARAM_ERROR 2
+#define HIOMAP_WRITE_ERROR 3
 #define HIOMAP_SYSTEM_ERROR 4
 #define HIOMAP_TIMEOUT 5
 #define HIOMAP_BUSY 6
@@ -158,8 +163,9 @@ typedef struct hiomap_suspended {
 } hiomap_suspended;
 
 /*
- * What a step answers: 4 SYSTEM_ERROR, 6 BUSY or 1, and whether it did an action. 1 without an action means
- * that no action is left: all were done, nothing is marked, or there is no window.
+ * What a step answers: 4 SYSTEM_ERROR, 6 BUSY, 3 WRITE_ERROR or 1, and whether it did an action. 1 without an action
+ * means that no action is left: all were done, nothing is marked, or there is no window. 3 has no action: those before
+ * the erase of a worn block were done, and that erase fails.
  */
 typedef struct hiomap_stepped {
     uint8_t code;
@@ -188,10 +194,10 @@ typedef struct hiomap_message_reply {
 } hiomap_message_reply;
 
 /*
- * How much is pending: the marked window blocks, and the chip actions that their flush takes. `unsound` where `dirty`
- * or `erased` of the record is not the number of such marks; the two numbers are 0 then and mean nothing. It is no
- * test of the rest of the record: one that is not sound for another reason, to which a command answers SYSTEM_ERROR,
- * is answered as well.
+ * How much is pending: the marked window blocks, and the chip actions that their flush takes if no block is worn.
+ * `unsound` where `dirty` or `erased` of the record is not the number of such marks; the two numbers are 0 then and
+ * mean nothing. It is no test of the rest of the record: one that is not sound for another reason, to which a command
+ * answers SYSTEM_ERROR, is answered as well.
  */
 typedef struct hiomap_pending_work {
     bool unsound;
@@ -236,10 +242,15 @@ hiomap_record hiomap_fresh(void);
  *   lpc        the window's first LPC block (B)
  *   timeout    the suggested timeout in seconds (T)
  *   flash      the whole flash image, 1 to 65,535 blocks; a flush changes it
+ *   worn       the map of worn blocks, a byte for each flash block, 0 good; only read. Another length than the number
+ *              of flash blocks is answered with SYSTEM_ERROR
  *   memory     the whole window memory, 1 to 64 blocks; a create and an ERASE change it
+ * FLUSH and CLOSE_WINDOW answer WRITE_ERROR where the erase of a worn block fails: the blocks before it are flushed and
+ * clean, that one and those behind it keep their marks, and the window stays. A create answers it too, before the check
+ * of its own argument, and leaves no window and no marks. The number of chip actions leaves out the failed erase.
  */
 uint32_t hiomap_command(hiomap_record *record, uint8_t (*registers)[HIOMAP_REGISTERS], uint16_t lpc, uint16_t timeout,
-                        hiomap_bytes flash, hiomap_bytes memory);
+                        hiomap_bytes flash, hiomap_const_bytes worn, hiomap_bytes memory);
 
 /*
  * Serves one message, as a KCS port (kcs.h) or another IPMI interface hands it over: the command that it holds leaves
@@ -248,22 +259,24 @@ uint32_t hiomap_command(hiomap_record *record, uint8_t (*registers)[HIOMAP_REGIS
  *   netfn      the board's pair: the network function, 0 to 63, without the LUN (a number above 63 is no message's),
  *   command    and the command that the board reserves for hiomap
  *   message    the message's bytes, of any number
- *   lpc, timeout, flash, memory  as hiomap_command has them
+ *   lpc, timeout, flash, worn, memory  as hiomap_command has them
  * The first of these that holds refuses it, and nothing of the record and the buffers changes: under two bytes, the
  * empty response; another network function or command than the board's, C1; under four bytes, or a wrong number of
  * parameter bytes for a command that the record's version knows, C7; both in three bytes. The LUN is not looked at.
- * What comes next is the mediator's: a record that is not sound is HIOMAP_FAILED + 4. A command that the version does
- * not know is handed to it with any number of parameter bytes, those past the eleventh dropped; a version above 2 knows
- * none. The response has the parameters of the version after the command: of GET_INFO those of the version just agreed.
- * No response has the event byte: docs/INTEGRATION.md says what a board does about it. It is in libipmiboard.a.
+ * What comes next is the mediator's: a record or a map that is not sound is HIOMAP_FAILED + 4, and an erase that fails
+ * HIOMAP_FAILED + 3, completion code 83. A command that the version does not know is handed to it with any number of
+ * parameter bytes, those past the eleventh dropped; a version above 2 knows none. The response has the parameters of
+ * the version after the command: of GET_INFO those of the version just agreed. No response has the event byte:
+ * docs/INTEGRATION.md says what a board does about it. It is in libipmiboard.a.
  */
 hiomap_message_reply hiomap_message(hiomap_record *record, uint8_t netfn, uint8_t command, hiomap_const_bytes message,
-                                    uint16_t lpc, uint16_t timeout, hiomap_bytes flash, hiomap_bytes memory);
+                                    uint16_t lpc, uint16_t timeout, hiomap_bytes flash, hiomap_const_bytes worn,
+                                    hiomap_bytes memory);
 
 /*
  * Marks all pairs of a list dirty, or none of them: what a MARK_DIRTY of version 2 for each pair does, sent in order,
  * where all of these succeed. It is the board's own call: no sequence number is used or remembered, no register is read
- * or written, and neither buffer is touched.
+ * or written, and no byte of the flash, its map and the window memory: a worn block may be marked.
  *   record     the session; its marks and their numbers are changed in place. A refusal changes no byte of it
  *   list       pairs of a window block and a number of blocks, at most 64 of them: `length` is twice their number.
  *              A pair's blocks all lie in the window, in whole-number sums; 0 blocks are checked and mark nothing;
@@ -271,13 +284,14 @@ hiomap_message_reply hiomap_message(hiomap_record *record, uint8_t netfn, uint8_
  *   lpc        the window's first LPC block (B), and
  *   timeout    the suggested timeout (T), as hiomap_command has them
  *   flash      the length of the whole flash image, in bytes
+ *   worn       the length of the map of worn blocks, in bytes: the number of flash blocks, else the answer is 4
  *   memory     the length of the whole window memory, in bytes
  * The first of these that holds refuses it: the record, the sizes or lpc are not sound, 4; the version is not 2, 2;
  * access is suspended, 6; there is no write window, 7; the length is odd or above 128, 2; a pair does not lie in the
  * window, 2, and the first such pair is named.
  */
 hiomap_list_reply hiomap_mark_list(hiomap_record *record, hiomap_const_numbers list, uint16_t lpc, uint16_t timeout,
-                                   size_t flash, size_t memory);
+                                   size_t flash, size_t worn, size_t memory);
 
 /*
  * Flash access is suspended; resumed with the flash as it was; resumed with the flash changed, which drops
@@ -294,19 +308,24 @@ hiomap_suspended hiomap_resume_changed(hiomap_record record);
 /*
  * Advances the flush of the record's window by one chip action.
  *   flash      the whole flash image; the action changes it
+ *   worn       the map of worn blocks, a byte for each flash block, else the answer is 4; only read
  *   memory     the whole window memory; only read
  *   done       how many actions were done before: the caller counts one for each answer with `acted`
+ * Where the erase of a worn block fails, a step answers 3 from that erase on, without an action, and changes nothing.
  * The record has no change, and the marks stay: a FLUSH after the steps does all actions again. Whoever clears the
  * marks by hand instead sets `dirty` and `erased` to 0 with them.
  */
-hiomap_stepped hiomap_step(hiomap_record record, hiomap_bytes flash, hiomap_const_bytes memory, uint64_t done);
+hiomap_stepped hiomap_step(hiomap_record record, hiomap_bytes flash, hiomap_const_bytes worn, hiomap_const_bytes memory,
+                           uint64_t done);
 
 /*
  * How much is pending: how many window blocks are marked, and how many chip actions a flush would take that begins
- * now. It looks at the marks and their two numbers alone. Of a sound record `actions` is the number that
- * hiomap_command returns for a FLUSH that succeeds and adds no mark, for a CLOSE_WINDOW that succeeds, and for a
- * create that succeeds or is refused for its block. Nothing pending does not mean that all was saved: RESET,
- * hiomap_resume_changed and a fresh record drop marks without a flush. Steps change no mark, so they do not lower it.
+ * now. It looks at the marks and their two numbers alone, and counts as if no block were worn: a flush that stops at
+ * one takes fewer. Of a sound record `actions` is the number that hiomap_command returns for a FLUSH that succeeds and
+ * adds no mark, for a CLOSE_WINDOW that succeeds, and for a create that succeeds or is refused for its block. Nothing
+ * pending does not mean that all was saved: RESET, hiomap_resume_changed and a fresh record drop marks without a flush,
+ * and a create that answers WRITE_ERROR those that its flush did not reach. Steps change no mark, so they do not lower
+ * it.
  */
 hiomap_pending_work hiomap_pending(hiomap_record record);
 

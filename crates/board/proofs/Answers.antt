@@ -26,20 +26,20 @@ use Rattle.board.specs.Calls.{Left, left, kept, commanded, systemError, 
 
 -- ---- a session of version 255 is refused with SYSTEM_ERROR
 
-unsound : (setup : Setup) (flash memory : ℕ) (s : Session) → soundAt setup flash memory (withVersion 255 s) ≡ false
+unsound : (setup : Setup) (flash worn memory : ℕ) (s : Session) → soundAt setup flash worn memory (withVersion 255 s) ≡ false
 unfolding soundAt sound sessionSound
-unsound setup flash memory s = rw (and-false (sizesSound flash memory)) refl
+unsound setup flash worn memory s = rw (and-false (sizesSound flash worn memory)) refl
 
-system : (setup : Setup) (registers : List ℕ) (s : Session) (flash memory : List ℕ)
-    → reasonIn setup registers (lent (withVersion 255 s) flash memory) ≡ System
+system : (setup : Setup) (registers : List ℕ) (s : Session) (flash worn memory : List ℕ)
+    → reasonIn setup registers (lent (withVersion 255 s) flash worn memory) ≡ System
 unfolding reasonFor
-system setup registers s flash memory = rw (unsound setup (length flash) (length memory) s) refl
+system setup registers s flash worn memory = rw (unsound setup (length flash) (length worn) (length memory) s) refl
 
-pub unsound-refused : (setup : Setup) (registers : List ℕ) (s : Session) (flash memory : List ℕ)
-    → mediate setup registers (lent (withVersion 255 s) flash memory) ≡ refused 4 registers (lent (withVersion 255 s) flash memory)
+pub unsound-refused : (setup : Setup) (registers : List ℕ) (s : Session) (flash worn memory : List ℕ)
+    → mediate setup registers (lent (withVersion 255 s) flash worn memory) ≡ refused 4 registers (lent (withVersion 255 s) flash worn memory)
 unfolding answerTo
-unsound-refused setup registers s flash memory =
-    mediate-as setup registers (lent (withVersion 255 s) flash memory) System (system setup registers s flash memory)
+unsound-refused setup registers s flash worn memory =
+    mediate-as setup registers (lent (withVersion 255 s) flash worn memory) System (system setup registers s flash worn memory)
 
 -- ---- the way there and back loses nothing
 
@@ -101,19 +101,19 @@ own-back h = rw (number-back (h .numbered) (h .previous)) refl
 abbrev pub passed : Bool → Record → Outcome → Left
 passed regular h o = left (afterwards regular h (o .machine .session)) (o .registers) (o .actions) (o .machine .flash) (o .machine .memory)
 
-by-record : (regular : Bool) (setup : Setup) (h : Record) (registers flash memory : List ℕ)
-    → passed regular h (mediate setup registers (lent (cond regular (sessionOf h) (withVersion 255 (sessionOf h))) flash memory))
-    ≡ cond regular (kept (h .previous) (mediate setup registers (lent (sessionOf h) flash memory))) (systemError h registers flash memory)
-by-record true setup h registers flash memory = refl
-by-record false setup h registers flash memory =
-    ap (passed false h) (unsound-refused setup registers (sessionOf h) flash memory)
+by-record : (regular : Bool) (setup : Setup) (h : Record) (registers flash worn memory : List ℕ)
+    → passed regular h (mediate setup registers (lent (cond regular (sessionOf h) (withVersion 255 (sessionOf h))) flash worn memory))
+    ≡ cond regular (kept (h .previous) (mediate setup registers (lent (sessionOf h) flash worn memory))) (systemError h registers flash memory)
+by-record true setup h registers flash worn memory = refl
+by-record false setup h registers flash worn memory =
+    ap (passed false h) (unsound-refused setup registers (sessionOf h) flash worn memory)
     ∙ ap (λ (n : Record). left n (answered (sessionOf h) registers 4 [] 0 .registers) 0 flash memory) (own-back h)
 
-pub commanded-passed : (setup : Setup) (h : Record) (registers flash memory : List ℕ) (regular : Bool) (s : Session)
+pub commanded-passed : (setup : Setup) (h : Record) (registers flash worn memory : List ℕ) (regular : Bool) (s : Session)
     → regular ≡ isRegular h → s ≡ cond regular (sessionOf h) (withVersion 255 (sessionOf h))
-    → passed regular h (mediate setup registers (lent s flash memory)) ≡ commanded setup h registers flash memory
+    → passed regular h (mediate setup registers (lent s flash worn memory)) ≡ commanded setup h registers flash worn memory
 unfolding commanded
-commanded-passed setup h registers flash memory regular s r e =
-    ap (λ (t : Session). passed regular h (mediate setup registers (lent t flash memory))) e
-    ∙ by-record regular setup h registers flash memory
-    ∙ ap (λ (b : Bool). cond b (kept (h .previous) (mediate setup registers (lent (sessionOf h) flash memory))) (systemError h registers flash memory)) r
+commanded-passed setup h registers flash worn memory regular s r e =
+    ap (λ (t : Session). passed regular h (mediate setup registers (lent t flash worn memory))) e
+    ∙ by-record regular setup h registers flash worn memory
+    ∙ ap (λ (b : Bool). cond b (kept (h .previous) (mediate setup registers (lent (sessionOf h) flash worn memory))) (systemError h registers flash memory)) r

@@ -32,45 +32,45 @@ record-pending h = (
   λ n. ap workOf (pending-wrong (sessionOf h) (λ e. n (counted h e))),
 )
 
-module _ (h : Record) (apart : Counted h → ⊥) (flash memory : List ℕ) where
-  unsound : sound (length flash) (length memory) (sessionOf h) ≡ false
-  unsound = miscounted (length flash) (length memory) (sessionOf h) (λ e. apart (counted h e))
+module _ (h : Record) (apart : Counted h → ⊥) (flash worn memory : List ℕ) where
+  unsound : sound (length flash) (length worn) (length memory) (sessionOf h) ≡ false
+  unsound = miscounted (length flash) (length worn) (length memory) (sessionOf h) (λ e. apart (counted h e))
 
-  unsound-at : (setup : Setup) → soundIn setup (lent (sessionOf h) flash memory) ≡ false
+  unsound-at : (setup : Setup) → soundIn setup (lent (sessionOf h) flash worn memory) ≡ false
   unfolding soundAt
   unsound-at setup = rw unsound
 
-  command : (setup : Setup) (registers : List ℕ) → commanded setup h registers flash memory ≡ systemError h registers flash memory
+  command : (setup : Setup) (registers : List ℕ) → commanded setup h registers flash worn memory ≡ systemError h registers flash memory
   unfolding commanded
   command setup registers =
       ⊎-elim
       (λ (e : isRegular h ≡ true).
       rw e
-      (ap (kept (h .previous)) (unsound-as setup registers (lent (sessionOf h) flash memory) (unsound-at setup))
+      (ap (kept (h .previous)) (unsound-as setup registers (lent (sessionOf h) flash worn memory) (unsound-at setup))
       ∙ ap (λ (r : Record). left r (systemError h registers flash memory .registers) 0 flash memory) (nothing-lost .1 h e)))
       (λ (e : isRegular h ≡ false). rw e)
       (decided (isRegular h))
 
   list-of : (setup : Setup) (list : List ℕ)
-      → listedRecord setup (length flash) (length memory) list h ≡ record { held = h; answer = record { code = 4; named = false; place = 0 } }
+      → listedRecord setup (length flash) (length worn) (length memory) list h ≡ record { held = h; answer = record { code = 4; named = false; place = 0 } }
   unfolding listedRecord
   list-of setup list =
       ⊎-elim
       (λ (e : isRegular h ≡ true).
       rw e
-      (ap (keptList (h .previous)) (listed-unsound setup (length flash) (length memory) list (sessionOf h) (unsound-at setup))
+      (ap (keptList (h .previous)) (listed-unsound setup (length flash) (length worn) (length memory) list (sessionOf h) (unsound-at setup))
       ∙ ap (λ (r : Record). record { held = r; answer = record { code = 4; named = false; place = 0 } }) (nothing-lost .1 h e)))
       (λ (e : isRegular h ≡ false). rw e)
       (decided (isRegular h))
 
-  step : (done : ℕ) → cond (isRegular h) (advanced (lent (sessionOf h) flash memory) done) (record { code = 4; yes = false; flash = flash })
+  step : (done : ℕ) → cond (isRegular h) (advanced (lent (sessionOf h) flash worn memory) done) (record { code = 4; yes = false; flash = flash })
       ≡ record { code = 4; yes = false; flash = flash }
   unfolding advanced
   step done =
       ⊎-elim (λ (e : isRegular h ≡ true). rw (e, unsound)) (λ (e : isRegular h ≡ false). rw e) (decided (isRegular h))
 
 pub record-miscounted : RecordMiscounted
-record-miscounted h apart flash memory = (command h apart flash memory, list-of h apart flash memory, step h apart flash memory)
+record-miscounted h apart flash worn memory = (command h apart flash worn memory, list-of h apart flash worn memory, step h apart flash worn memory)
 
 pub record-dropped : RecordDropped
 record-dropped h e = rw e (refl, refl, refl)

@@ -43,8 +43,8 @@ pub follows : Follows
 unfolding commanded listedRecord
 follows h e =
     let s = sessionOf h in (
-      λ setup registers flash memory. rw e (session-back (h .previous) (mediate setup registers (lent s flash memory) .machine .session)),
-      λ setup flash memory list. rw e (session-back (h .previous) (listed setup flash memory list s .session)),
+      λ setup registers flash worn memory. rw e (session-back (h .previous) (mediate setup registers (lent s flash worn memory) .machine .session)),
+      λ setup flash worn memory list. rw e (session-back (h .previous) (listed setup flash worn memory list s .session)),
       answered (h .window) h (not (s .suspended)) (withAccess true (setBits controlLost (s .events)) s) refl refl,
       answered (h .window) h (s .suspended) (withAccess false (clearBits controlLost (s .events)) s) refl refl,
       answered 0 h (s .suspended) (dropWindow (withAccess false (setBits windowReset (clearBits controlLost (s .events))) s)) refl refl,

@@ -41,8 +41,8 @@ pub stays-regular : StaysRegular
 unfolding commanded listedRecord
 stays-regular h e =
     let known = both (leb (h .suspended) 1) (leb (h .window) 2) (both (leb (h .numbered) 1) (leb (h .suspended) 1 && leb (h .window) 2) e .1) .1 in (
-      λ setup registers flash memory. rw e (of-session (h .previous) (mediate setup registers (lent (sessionOf h) flash memory) .machine .session)),
-      λ setup flash memory list. rw e (of-session (h .previous) (listed setup flash memory list (sessionOf h) .session)),
+      λ setup registers flash worn memory. rw e (of-session (h .previous) (mediate setup registers (lent (sessionOf h) flash worn memory) .machine .session)),
+      λ setup flash worn memory list. rw e (of-session (h .previous) (listed setup flash worn memory list (sessionOf h) .session)),
       answered h e (h .window) known (suspended (sessionOf h)),
       answered h e (h .window) known (resumed (sessionOf h)),
       answered h e 0 refl (resumedChanged (sessionOf h)),

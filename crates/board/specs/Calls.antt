@@ -32,7 +32,7 @@ use Rattle.board.specs.Record.{isYes, isRegular, sessionOf, recordOf, wi
 abbrev pub board : ℕ → ℕ → Setup
 board lpc timeout = setUp (record { lpc = lpc; timeout = timeout })
 
--- what a command leaves: the record, the registers, the number of chip actions and both buffers
+-- what a command leaves: the record, the registers, the number of chip actions and both buffers; the map of worn blocks is only read
 pub record Left : Type 0 where
   pub held : Record
   pub registers : List ℕ
@@ -51,11 +51,11 @@ kept spare o = left (recordOf spare (o .machine .session)) (o .registers) (o .ac
 abbrev pub systemError : Record → List ℕ → List ℕ → List ℕ → Left
 systemError h registers flash memory = left h (answered (sessionOf h) registers 4 [] 0 .registers) 0 flash memory
 
--- a command
-unfoldable pub commanded : Setup → Record → List ℕ → List ℕ → List ℕ → Left
-commanded setup h registers flash memory =
+-- a command, of the flash, its map of worn blocks and the window memory
+unfoldable pub commanded : Setup → Record → List ℕ → List ℕ → List ℕ → List ℕ → Left
+commanded setup h registers flash worn memory =
     cond (isRegular h)
-    (kept (h .previous) (mediate setup registers (lent (sessionOf h) flash memory)))
+    (kept (h .previous) (mediate setup registers (lent (sessionOf h) flash worn memory)))
     (systemError h registers flash memory)
 
 -- suspend and resume, "on any session, sound or not": a call that has nothing to do "changes nothing and answers no; otherwise they answer
@@ -82,10 +82,10 @@ abbrev pub steppedBy : Stepped → List ℕ → Advanced
 steppedBy r flash = record { code = r .code; yes = r .acted; flash = flash }
 
 -- the flush advanced by one action: 4 where the record is not sound
-abbrev pub steppedRecord : Record → List ℕ → ℕ → List ℕ → Advanced
-steppedRecord h memory done flash =
+abbrev pub steppedRecord : Record → List ℕ → List ℕ → ℕ → List ℕ → Advanced
+steppedRecord h worn memory done flash =
     cond (isRegular h)
-    (advanced (lent (sessionOf h) flash memory) done)
+    (advanced (lent (sessionOf h) flash worn memory) done)
     (record { code = 4; yes = false; flash = flash })
 
 -- the answer of a list of marks, as C has it: its code, and whether it names a pair, by its place
@@ -96,11 +96,12 @@ listReplyOf answer = record { code = listCode answer; named = namesPair answer; 
 abbrev pub keptList : ℕ → Listed → ServedList
 keptList spare l = record { held = recordOf spare (l .session); answer = listReplyOf (l .answer) }
 
--- a list of marks in one call, of the lengths of both buffers in bytes: 4 where the record is not sound, which stays exactly as it is (02, Ticket 4)
-unfoldable pub listedRecord : Setup → ℕ → ℕ → List ℕ → Record → ServedList
-listedRecord setup flash memory list h =
+-- a list of marks in one call, of the lengths of the flash, its map and the window memory in bytes: 4 where the record is not sound, which stays
+-- exactly as it is (02, Ticket 4)
+unfoldable pub listedRecord : Setup → ℕ → ℕ → ℕ → List ℕ → Record → ServedList
+listedRecord setup flash worn memory list h =
     cond (isRegular h)
-    (keptList (h .previous) (listed setup flash memory list (sessionOf h)))
+    (keptList (h .previous) (listed setup flash worn memory list (sessionOf h)))
     (record { held = h; answer = listReplyOf UnsoundList })
 
 -- "unsound", and else the two numbers, as C has them: with "unsound" both are 0 (house)
@@ -108,7 +109,7 @@ abbrev pub workOf : PendingWork → Work
 workOf Unsound = record { unsound = true; blocks = 0; actions = 0 }
 workOf (Marked blocks actions) = record { unsound = false; blocks = blocks; actions = actions }
 
--- how much is pending, whatever the other numbers of the record (02, Ticket 2)
+-- how much is pending, whatever the other numbers of the record (02, Ticket 2), and as if no block were worn (02, Ticket 8)
 abbrev pub pendingRecord : Record → Work
 pendingRecord h = workOf (pendingIn (sessionOf h))
 
@@ -122,10 +123,10 @@ NothingLost =
 abbrev pub Follows : Type 0
 Follows =
     (h : Record) (regular : isRegular h ≡ true)
-    → ((setup : Setup) (registers flash memory : List ℕ)
-    → sessionOf (commanded setup h registers flash memory .held) ≡ mediate setup registers (lent (sessionOf h) flash memory) .machine .session)
-    × ((setup : Setup) (flash memory : ℕ) (list : List ℕ)
-    → sessionOf (listedRecord setup flash memory list h .held) ≡ listed setup flash memory list (sessionOf h) .session)
+    → ((setup : Setup) (registers flash worn memory : List ℕ)
+    → sessionOf (commanded setup h registers flash worn memory .held) ≡ mediate setup registers (lent (sessionOf h) flash worn memory) .machine .session)
+    × ((setup : Setup) (flash worn memory : ℕ) (list : List ℕ)
+    → sessionOf (listedRecord setup flash worn memory list h .held) ≡ listed setup flash worn memory list (sessionOf h) .session)
     × (sessionOf (suspendedRecord h .held) ≡ suspended (sessionOf h) .session)
     × (sessionOf (resumedRecord h .held) ≡ resumed (sessionOf h) .session)
     × (sessionOf (changedRecord h .held) ≡ resumedChanged (sessionOf h) .session)
@@ -135,8 +136,8 @@ Follows =
 abbrev pub StaysRegular : Type 0
 StaysRegular =
     (h : Record) → isRegular h ≡ true
-    → ((setup : Setup) (registers flash memory : List ℕ) → isRegular (commanded setup h registers flash memory .held) ≡ true)
-    × ((setup : Setup) (flash memory : ℕ) (list : List ℕ) → isRegular (listedRecord setup flash memory list h .held) ≡ true)
+    → ((setup : Setup) (registers flash worn memory : List ℕ) → isRegular (commanded setup h registers flash worn memory .held) ≡ true)
+    × ((setup : Setup) (flash worn memory : ℕ) (list : List ℕ) → isRegular (listedRecord setup flash worn memory list h .held) ≡ true)
     × (isRegular (suspendedRecord h .held) ≡ true)
     × (isRegular (resumedRecord h .held) ≡ true)
     × (isRegular (changedRecord h .held) ≡ true)
@@ -159,11 +160,11 @@ RecordPending =
 -- changes nothing
 abbrev pub RecordMiscounted : Type 0
 RecordMiscounted =
-    (h : Record) → (Counted h → ⊥) → (flash memory : List ℕ)
-    → ((setup : Setup) (registers : List ℕ) → commanded setup h registers flash memory ≡ systemError h registers flash memory)
+    (h : Record) → (Counted h → ⊥) → (flash worn memory : List ℕ)
+    → ((setup : Setup) (registers : List ℕ) → commanded setup h registers flash worn memory ≡ systemError h registers flash memory)
     × ((setup : Setup) (list : List ℕ)
-    → listedRecord setup (length flash) (length memory) list h ≡ record { held = h; answer = record { code = 4; named = false; place = 0 } })
-    × ((done : ℕ) → steppedRecord h memory done flash ≡ record { code = 4; yes = false; flash = flash })
+    → listedRecord setup (length flash) (length worn) (length memory) list h ≡ record { held = h; answer = record { code = 4; named = false; place = 0 } })
+    × ((done : ℕ) → steppedRecord h worn memory done flash ≡ record { code = 4; yes = false; flash = flash })
 
 -- a resume with changed flash drops the marks of any record that is suspended, and both numbers are 0
 abbrev pub RecordDropped : Type 0
@@ -177,11 +178,11 @@ RecordDropped =
 -- nothing the answer is 4; where each stands for something, what its session answers
 abbrev pub RecordListed : Type 0
 RecordListed =
-    (setup : Setup) (flash memory : ℕ) (list : List ℕ) (h : Record)
-    → (listedRecord setup flash memory list h .held .numbered ≡ h .numbered)
-    × (listedRecord setup flash memory list h .held .previous ≡ h .previous)
-    × ((listedRecord setup flash memory list h .answer .code ≡ 1 → ⊥) → listedRecord setup flash memory list h .held ≡ h)
-    × (isRegular h ≡ false → listedRecord setup flash memory list h .answer ≡ record { code = 4; named = false; place = 0 })
+    (setup : Setup) (flash worn memory : ℕ) (list : List ℕ) (h : Record)
+    → (listedRecord setup flash worn memory list h .held .numbered ≡ h .numbered)
+    × (listedRecord setup flash worn memory list h .held .previous ≡ h .previous)
+    × ((listedRecord setup flash worn memory list h .answer .code ≡ 1 → ⊥) → listedRecord setup flash worn memory list h .held ≡ h)
+    × (isRegular h ≡ false → listedRecord setup flash worn memory list h .answer ≡ record { code = 4; named = false; place = 0 })
     × (isRegular h ≡ true
-    → listedRecord setup flash memory list h .answer
-    ≡ (let a = listed setup flash memory list (sessionOf h) .answer in record { code = listCode a; named = namesPair a; place = placeNamed a }))
+    → listedRecord setup flash worn memory list h .answer
+    ≡ (let a = listed setup flash worn memory list (sessionOf h) .answer in record { code = listCode a; named = namesPair a; place = placeNamed a }))

@@ -57,10 +57,17 @@ fn with_numbers(held: Record, answer: Suspension, window: u8) -> Suspended
     }
 }
 
-// Advances the flush by one action, from the number of actions already done. Only the flash changes.
+// Advances the flush by one action, from the number of actions already done. Only the flash changes, and from the erase
+// of a worn block on nothing.
 #[no_mangle]
-pub extern "C" fn hiomap_step(held: Record, flash: &mut [u8], memory: &[u8], done: u64) -> Stepped
-    ensures { λ r. ⌜ steppedBy r (now (flash .exit)) ≡ steppedRecord held (now (memory .entry)) done (now (flash .entry)) ⌝ }
+pub extern "C" fn hiomap_step(
+    held: Record,
+    flash: &mut [u8],
+    worn: &[u8],
+    memory: &[u8],
+    done: u64,
+) -> Stepped
+    ensures { λ r. ⌜ steppedBy r (now (flash .exit)) ≡ steppedRecord held (now (worn .entry)) (now (memory .entry)) done (now (flash .entry)) ⌝ }
 {
     if !is_regular(held) {
         return Stepped {
@@ -68,7 +75,7 @@ pub extern "C" fn hiomap_step(held: Record, flash: &mut [u8], memory: &[u8], don
             acted: false,
         };
     }
-    stepped(advance(session_of(held), flash, memory, done))
+    stepped(advance(session_of(held), flash, worn, memory, done))
 }
 
 // A step's answer as a code and yes or no.
@@ -90,6 +97,10 @@ fn stepped(step: Step) -> Stepped
         },
         Step::Finished => Stepped {
             code: 1,
+            acted: false,
+        },
+        Step::Failed => Stepped {
+            code: 3,
             acted: false,
         },
     }

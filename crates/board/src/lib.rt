@@ -66,7 +66,7 @@ pub struct ListReply {
 }
 
 // How much is pending: whether a kept number disagrees with the marks, and else the number of marked blocks, and
-// of the chip actions that their flush takes.
+// of the chip actions that their flush takes if no block is worn.
 #[repr(C)]
 pub struct Work {
     pub unsound: bool,

@@ -24,9 +24,10 @@ pub(crate) fn mark_all(
     lpc: u16,
     timeout: u16,
     flash: usize,
+    worn: usize,
     memory: usize,
 ) -> ServedList
-    ensures { λ r. ⌜ r ≡ listedRecord (board lpc timeout) flash memory (now (list .entry)) held ⌝ }
+    ensures { λ r. ⌜ r ≡ listedRecord (board lpc timeout) flash worn memory (now (list .entry)) held ⌝ }
 {
     if !is_regular(held) {
         return ServedList {
@@ -35,7 +36,7 @@ pub(crate) fn mark_all(
         };
     }
     let board = Board { lpc, timeout };
-    let listed = mark_list(session_of(held), list, board, flash, memory);
+    let listed = mark_list(session_of(held), list, board, flash, worn, memory);
     let answer = listed.answer;
     ServedList {
         held: record_of(listed.session, held.previous),
@@ -73,7 +74,7 @@ fn unnamed(code: u8) -> ListReply
     }
 }
 
-// Marks a list of pairs in a lent record; the lengths of both buffers are in bytes.
+// Marks a list of pairs in a lent record; the lengths of the flash, its map and the window memory are in bytes.
 #[no_mangle]
 pub extern "C" fn hiomap_mark_list(
     held: &mut Record,
@@ -81,12 +82,13 @@ pub extern "C" fn hiomap_mark_list(
     lpc: u16,
     timeout: u16,
     flash: usize,
+    worn: usize,
     memory: usize,
 ) -> ListReply
     ensures { λ r. ⌜ record { held = now (held .exit); answer = r }
-        ≡ listedRecord (board lpc timeout) flash memory (now (list .entry)) (now (held .entry)) ⌝ }
+        ≡ listedRecord (board lpc timeout) flash worn memory (now (list .entry)) (now (held .entry)) ⌝ }
 {
-    let marking = mark_all(*held, list, lpc, timeout, flash, memory);
+    let marking = mark_all(*held, list, lpc, timeout, flash, worn, memory);
     *held = marking.held;
     marking.answer
 }

@@ -29,15 +29,16 @@ pub fn serve(
     lpc: u16,
     timeout: u16,
     flash: &mut [u8],
+    worn: &[u8],
     memory: &mut [u8],
 ) -> Served
     ensures { λ r. ⌜ left (r .held) (r .registers) (r .actions) (now (flash .exit)) (now (memory .exit))
-        ≡ commanded (board lpc timeout) held registers (now (flash .entry)) (now (memory .entry)) ⌝ }
+        ≡ commanded (board lpc timeout) held registers (now (flash .entry)) (now (worn .entry)) (now (memory .entry)) ⌝ }
 {
     let regular = is_regular(held);
     let board = Board { lpc, timeout };
     let session = served_session(held, regular);
-    let answer = command(session, registers, board, flash, memory);
+    let answer = command(session, registers, board, flash, worn, memory);
     let replied = answer.registers;
     Served {
         held: kept_record(held, regular, answer.session),
@@ -80,12 +81,13 @@ pub extern "C" fn hiomap_command(
     lpc: u16,
     timeout: u16,
     flash: &mut [u8],
+    worn: &[u8],
     memory: &mut [u8],
 ) -> u32
     ensures { λ r. ⌜ left (now (held .exit)) (now (registers .exit)) r (now (flash .exit)) (now (memory .exit))
-        ≡ commanded (board lpc timeout) (now (held .entry)) (now (registers .entry)) (now (flash .entry)) (now (memory .entry)) ⌝ }
+        ≡ commanded (board lpc timeout) (now (held .entry)) (now (registers .entry)) (now (flash .entry)) (now (worn .entry)) (now (memory .entry)) ⌝ }
 {
-    let answer = serve(*held, *registers, lpc, timeout, flash, memory);
+    let answer = serve(*held, *registers, lpc, timeout, flash, worn, memory);
     *held = answer.held;
     *registers = answer.registers;
     answer.actions

@@ -10,7 +10,7 @@ use Rattle.messages.specs.Messages.{takenAs, registersOf, refusal, responseOf}
 use Rattle.mailbox.specs.Commands.{Outcome}
 use Rattle.mailbox.specs.Mediator.{mediate}
 
--- what a message leaves: the session and both buffers, the response and the number of chip actions
+-- what a message leaves: the session, the flash with its map and the window memory, the response and the number of chip actions
 pub record Served : Type 0 where
   pub machine : Machine
   pub response : List ℕ

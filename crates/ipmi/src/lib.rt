@@ -30,18 +30,19 @@ pub fn serve_message(
     pair: Pair,
     message: &[u8],
     flash: &mut [u8],
+    worn: &[u8],
     memory: &mut [u8],
 ) -> Reply
-    ensures { λ r. ⌜ (lent (r .session) (now (flash .exit)) (now (memory .exit))
-        ≡ served (setUp board) pair (now (message .entry)) (lent session (now (flash .entry)) (now (memory .entry))) .machine)
-        × (r .response ≡ laid (served (setUp board) pair (now (message .entry)) (lent session (now (flash .entry)) (now (memory .entry))) .response))
-        × (r .actions ≡ served (setUp board) pair (now (message .entry)) (lent session (now (flash .entry)) (now (memory .entry))) .actions) ⌝ }
+    ensures { λ r. ⌜ (lent (r .session) (now (flash .exit)) (now (worn .entry)) (now (memory .exit))
+        ≡ served (setUp board) pair (now (message .entry)) (lent session (now (flash .entry)) (now (worn .entry)) (now (memory .entry))) .machine)
+        × (r .response ≡ laid (served (setUp board) pair (now (message .entry)) (lent session (now (flash .entry)) (now (worn .entry)) (now (memory .entry))) .response))
+        × (r .actions ≡ served (setUp board) pair (now (message .entry)) (lent session (now (flash .entry)) (now (worn .entry)) (now (memory .entry))) .actions) ⌝ }
 {
     let opened = open_message(pair, session.version, message);
     let taken = opened.taken;
     let registers = opened.registers;
     match taken {
-        Taken::Command => serve_command(session, board, message, registers, flash, memory),
+        Taken::Command => serve_command(session, board, message, registers, flash, worn, memory),
         _ => Reply {
             session,
             response: refuse(taken, message),
@@ -57,14 +58,15 @@ fn serve_command(
     message: &[u8],
     registers: [u8; 16],
     flash: &mut [u8],
+    worn: &[u8],
     memory: &mut [u8],
 ) -> Reply
-    ensures { λ r. ⌜ (lent (r .session) (now (flash .exit)) (now (memory .exit))
-        ≡ mediate (setUp board) registers (lent session (now (flash .entry)) (now (memory .entry))) .machine)
-        × (r .response ≡ laid (mediated (now (message .entry)) (mediate (setUp board) registers (lent session (now (flash .entry)) (now (memory .entry)))) .response))
-        × (r .actions ≡ mediate (setUp board) registers (lent session (now (flash .entry)) (now (memory .entry))) .actions) ⌝ }
+    ensures { λ r. ⌜ (lent (r .session) (now (flash .exit)) (now (worn .entry)) (now (memory .exit))
+        ≡ mediate (setUp board) registers (lent session (now (flash .entry)) (now (worn .entry)) (now (memory .entry))) .machine)
+        × (r .response ≡ laid (mediated (now (message .entry)) (mediate (setUp board) registers (lent session (now (flash .entry)) (now (worn .entry)) (now (memory .entry)))) .response))
+        × (r .actions ≡ mediate (setUp board) registers (lent session (now (flash .entry)) (now (worn .entry)) (now (memory .entry))) .actions) ⌝ }
 {
-    let answer = command(session, registers, board, flash, memory);
+    let answer = command(session, registers, board, flash, worn, memory);
     let after = answer.session;
     let replied = answer.registers;
     Reply {

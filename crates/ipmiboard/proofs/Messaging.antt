@@ -29,35 +29,35 @@ use Rattle.board.proofs.Answers.{nothing-lost}
 use Rattle.board.proofs.Regular.{of-session}
 
 -- by what became of it
-messaged-as : (setup : Setup) (pair : Pair) (message : List ℕ) (h : Record) (flash memory : List ℕ) (t : Taken) → t ≡ takenAs pair (h .version) message
-    → messagedAs t setup message h flash memory ≡ messagedRecord setup pair message h flash memory
+messaged-as : (setup : Setup) (pair : Pair) (message : List ℕ) (h : Record) (flash worn memory : List ℕ) (t : Taken) → t ≡ takenAs pair (h .version) message
+    → messagedAs t setup message h flash worn memory ≡ messagedRecord setup pair message h flash worn memory
 unfolding messagedRecord
-messaged-as setup pair message h flash memory t e = ap (λ (q : Taken). messagedAs q setup message h flash memory) e
+messaged-as setup pair message h flash worn memory t e = ap (λ (q : Taken). messagedAs q setup message h flash worn memory) e
 
 -- a message that was taken
-pub messaged-command : (setup : Setup) (pair : Pair) (message : List ℕ) (h : Record) (flash memory : List ℕ) (o : Opened)
+pub messaged-command : (setup : Setup) (pair : Pair) (message : List ℕ) (h : Record) (flash worn memory : List ℕ) (o : Opened)
     → o ≡ opened pair (h .version) message → o .taken ≡ Command
-    → mediatedRecord message (commanded setup h (o .registers) flash memory) ≡ messagedRecord setup pair message h flash memory
-messaged-command setup pair message h flash memory o e c =
+    → mediatedRecord message (commanded setup h (o .registers) flash worn memory) ≡ messagedRecord setup pair message h flash worn memory
+messaged-command setup pair message h flash worn memory o e c =
     let taken = ap (λ (q : Opened). q .taken) e in
     let registers = ap (λ (q : Opened). q .registers) e ∙ ap (λ (t : Taken). registersFor t (h .version) message) (sym taken ∙ c) in
-    ap (λ (r : List ℕ). mediatedRecord message (commanded setup h r flash memory)) registers
-    ∙ messaged-as setup pair message h flash memory Command (sym c ∙ taken)
+    ap (λ (r : List ℕ). mediatedRecord message (commanded setup h r flash worn memory)) registers
+    ∙ messaged-as setup pair message h flash worn memory Command (sym c ∙ taken)
 
 -- one that was refused
-untouched-as : (setup : Setup) (message : List ℕ) (h : Record) (flash memory : List ℕ) (t : Taken) → OneOf (0 ∷ 1 ∷ 2 ∷ []) (tagOf the-type t)
-    → untouchedRecord (laid (refusal t message)) h flash memory ≡ messagedAs t setup message h flash memory
-untouched-as setup message h flash memory Short o = refl
-untouched-as setup message h flash memory Foreign o = refl
-untouched-as setup message h flash memory Malformed o = refl
-untouched-as setup message h flash memory Command o = absurd (none-of (0 ∷ 1 ∷ 2 ∷ []) 3 refl o)
+untouched-as : (setup : Setup) (message : List ℕ) (h : Record) (flash worn memory : List ℕ) (t : Taken) → OneOf (0 ∷ 1 ∷ 2 ∷ []) (tagOf the-type t)
+    → untouchedRecord (laid (refusal t message)) h flash memory ≡ messagedAs t setup message h flash worn memory
+untouched-as setup message h flash worn memory Short o = refl
+untouched-as setup message h flash worn memory Foreign o = refl
+untouched-as setup message h flash worn memory Malformed o = refl
+untouched-as setup message h flash worn memory Command o = absurd (none-of (0 ∷ 1 ∷ 2 ∷ []) 3 refl o)
 
-pub messaged-refused : (setup : Setup) (pair : Pair) (message : List ℕ) (h : Record) (flash memory : List ℕ) (o : Opened)
+pub messaged-refused : (setup : Setup) (pair : Pair) (message : List ℕ) (h : Record) (flash worn memory : List ℕ) (o : Opened)
     → o ≡ opened pair (h .version) message → OneOf (0 ∷ 1 ∷ 2 ∷ []) (tagOf the-type (o .taken))
-    → untouchedRecord (laid (refusal (o .taken) message)) h flash memory ≡ messagedRecord setup pair message h flash memory
-messaged-refused setup pair message h flash memory o e k =
-    untouched-as setup message h flash memory (o .taken) k
-    ∙ messaged-as setup pair message h flash memory (o .taken) (ap (λ (q : Opened). q .taken) e)
+    → untouchedRecord (laid (refusal (o .taken) message)) h flash memory ≡ messagedRecord setup pair message h flash worn memory
+messaged-refused setup pair message h flash worn memory o e k =
+    untouched-as setup message h flash worn memory (o .taken) k
+    ∙ messaged-as setup pair message h flash worn memory (o .taken) (ap (λ (q : Opened). q .taken) e)
 
 -- ---- beside the session
 
@@ -74,23 +74,23 @@ asSession h o s =
     × (o .memory ≡ s .machine .memory)
     × (isRegular (o .held) ≡ true)
 
-same-as : (setup : Setup) (message : List ℕ) (h : Record) (flash memory : List ℕ) → isRegular h ≡ true → (t : Taken)
-    → asSession h (messagedAs t setup message h flash memory) (servedAs t setup message (lent (sessionOf h) flash memory))
+same-as : (setup : Setup) (message : List ℕ) (h : Record) (flash worn memory : List ℕ) → isRegular h ≡ true → (t : Taken)
+    → asSession h (messagedAs t setup message h flash worn memory) (servedAs t setup message (lent (sessionOf h) flash worn memory))
 unfolding asSession commanded
-same-as setup message h flash memory e Short = (sym (nothing-lost .1 h e), refl, refl, refl, e)
-same-as setup message h flash memory e Foreign = (sym (nothing-lost .1 h e), refl, refl, refl, e)
-same-as setup message h flash memory e Malformed = (sym (nothing-lost .1 h e), refl, refl, refl, e)
-same-as setup message h flash memory e Command =
-    let o = mediate setup (registersOf (h .version) message) (lent (sessionOf h) flash memory) in
+same-as setup message h flash worn memory e Short = (sym (nothing-lost .1 h e), refl, refl, refl, e)
+same-as setup message h flash worn memory e Foreign = (sym (nothing-lost .1 h e), refl, refl, refl, e)
+same-as setup message h flash worn memory e Malformed = (sym (nothing-lost .1 h e), refl, refl, refl, e)
+same-as setup message h flash worn memory e Command =
+    let o = mediate setup (registersOf (h .version) message) (lent (sessionOf h) flash worn memory) in
     rw e (refl, refl, refl, refl, of-session (h .previous) (o .machine .session))
 
 pub message-follows : MessageFollows
 unfolding asSession messagedRecord served
-message-follows setup pair message h flash memory e =
-    let s = served setup pair message (lent (sessionOf h) flash memory) in
-    let same = same-as setup message h flash memory e (takenAs pair (h .version) message) in (
+message-follows setup pair message h flash worn memory e =
+    let s = served setup pair message (lent (sessionOf h) flash worn memory) in
+    let same = same-as setup message h flash worn memory e (takenAs pair (h .version) message) in (
       same .0,
-      subst (Tells (s .response) (s .actions)) (sym (same .1)) (tells (s .response) (s .actions) (few-bytes setup pair message (lent (sessionOf h) flash memory))),
+      subst (Tells (s .response) (s .actions)) (sym (same .1)) (tells (s .response) (s .actions) (few-bytes setup pair message (lent (sessionOf h) flash worn memory))),
       same .2,
       same .3,
       same .4,
@@ -105,18 +105,18 @@ asItWas h message flash memory t o =
     × (t ≡ Command → Tells (headed message 0x84) 0 (o .reply))
     × ((t ≡ Command → ⊥) → Tells (refusal t message) 0 (o .reply))
 
-irregular-as : (setup : Setup) (message : List ℕ) (h : Record) (flash memory : List ℕ) → isRegular h ≡ false → (t : Taken)
-    → asItWas h message flash memory t (messagedAs t setup message h flash memory)
+irregular-as : (setup : Setup) (message : List ℕ) (h : Record) (flash worn memory : List ℕ) → isRegular h ≡ false → (t : Taken)
+    → asItWas h message flash memory t (messagedAs t setup message h flash worn memory)
 unfolding asItWas commanded responseOf
-irregular-as setup message h flash memory e Short =
+irregular-as setup message h flash worn memory e Short =
     (refl, refl, refl, λ c. absurd (false≢true (ap isCommand c)), λ _. tells [] 0 (lit≤ tt))
-irregular-as setup message h flash memory e Foreign =
+irregular-as setup message h flash worn memory e Foreign =
     (refl, refl, refl, λ c. absurd (false≢true (ap isCommand c)), λ _. tells (headed message 0xc1) 0 (lit≤ tt))
-irregular-as setup message h flash memory e Malformed =
+irregular-as setup message h flash worn memory e Malformed =
     (refl, refl, refl, λ c. absurd (false≢true (ap isCommand c)), λ _. tells (headed message 0xc7) 0 (lit≤ tt))
-irregular-as setup message h flash memory e Command =
+irregular-as setup message h flash worn memory e Command =
     rw e (refl, refl, refl, λ _. tells (headed message 0x84) 0 (lit≤ tt), λ n. absurd (n refl))
 
 pub message-irregular : MessageIrregular
 unfolding asItWas messagedRecord
-message-irregular setup pair message h flash memory e = irregular-as setup message h flash memory e (takenAs pair (h .version) message)
+message-irregular setup pair message h flash worn memory e = irregular-as setup message h flash worn memory e (takenAs pair (h .version) message)

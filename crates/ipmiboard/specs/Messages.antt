@@ -21,7 +21,7 @@ use Rattle.board.specs.Record.{isRegular, sessionOf, recordOf}
 abbrev pub replyOf : Response → ℕ → MessageReply
 replyOf response actions = record { response = response .bytes; length = response .length; actions = actions }
 
--- what a message leaves: the record, what it gives back, and both buffers
+-- what a message leaves: the record, what it gives back, and both buffers; the map of worn blocks is only read
 pub record Messaged : Type 0 where
   pub held : Record
   pub reply : MessageReply
@@ -46,16 +46,16 @@ mediatedRecord message l =
     }
 
 -- a message, by what became of it
-abbrev pub messagedAs : Taken → Setup → List ℕ → Record → List ℕ → List ℕ → Messaged
-messagedAs Short setup message h flash memory = untouchedRecord (laid (refusal Short message)) h flash memory
-messagedAs Foreign setup message h flash memory = untouchedRecord (laid (refusal Foreign message)) h flash memory
-messagedAs Malformed setup message h flash memory = untouchedRecord (laid (refusal Malformed message)) h flash memory
-messagedAs Command setup message h flash memory =
-    mediatedRecord message (commanded setup h (registersOf (h .version) message) flash memory)
+abbrev pub messagedAs : Taken → Setup → List ℕ → Record → List ℕ → List ℕ → List ℕ → Messaged
+messagedAs Short setup message h flash worn memory = untouchedRecord (laid (refusal Short message)) h flash memory
+messagedAs Foreign setup message h flash worn memory = untouchedRecord (laid (refusal Foreign message)) h flash memory
+messagedAs Malformed setup message h flash worn memory = untouchedRecord (laid (refusal Malformed message)) h flash memory
+messagedAs Command setup message h flash worn memory =
+    mediatedRecord message (commanded setup h (registersOf (h .version) message) flash worn memory)
 
 -- a message is looked at by the record's version, whatever its other numbers; a record with a number that stands for nothing is SYSTEM_ERROR then (house)
-unfoldable pub messagedRecord : Setup → Pair → List ℕ → Record → List ℕ → List ℕ → Messaged
-messagedRecord setup pair message h flash memory = messagedAs (takenAs pair (h .version) message) setup message h flash memory
+unfoldable pub messagedRecord : Setup → Pair → List ℕ → Record → List ℕ → List ℕ → List ℕ → Messaged
+messagedRecord setup pair message h flash worn memory = messagedAs (takenAs pair (h .version) message) setup message h flash worn memory
 
 -- ---- beside the session. Proved in proofs/Messaging.antt
 
@@ -70,9 +70,9 @@ pub record Tells (response : List ℕ) (actions : ℕ) (reply : MessageReply) : 
 -- buffers; and the record stays regular
 abbrev pub MessageFollows : Type 0
 MessageFollows =
-    (setup : Setup) (pair : Pair) (message : List ℕ) (h : Record) (flash memory : List ℕ) → isRegular h ≡ true
-    → (let o = messagedRecord setup pair message h flash memory in
-    let s = served setup pair message (lent (sessionOf h) flash memory) in
+    (setup : Setup) (pair : Pair) (message : List ℕ) (h : Record) (flash worn memory : List ℕ) → isRegular h ≡ true
+    → (let o = messagedRecord setup pair message h flash worn memory in
+    let s = served setup pair message (lent (sessionOf h) flash worn memory) in
     (o .held ≡ recordOf (h .previous) (s .machine .session))
     × Tells (s .response) (s .actions) (o .reply)
     × (o .flash ≡ s .machine .flash)
@@ -83,8 +83,8 @@ MessageFollows =
 -- bytes, and any other is refused as for every record
 abbrev pub MessageIrregular : Type 0
 MessageIrregular =
-    (setup : Setup) (pair : Pair) (message : List ℕ) (h : Record) (flash memory : List ℕ) → isRegular h ≡ false
-    → (let o = messagedRecord setup pair message h flash memory in
+    (setup : Setup) (pair : Pair) (message : List ℕ) (h : Record) (flash worn memory : List ℕ) → isRegular h ≡ false
+    → (let o = messagedRecord setup pair message h flash worn memory in
     (o .held ≡ h)
     × (o .flash ≡ flash)
     × (o .memory ≡ memory)

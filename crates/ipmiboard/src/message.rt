@@ -27,16 +27,26 @@ pub(crate) fn serve_message(
     lpc: u16,
     timeout: u16,
     flash: &mut [u8],
+    worn: &[u8],
     memory: &mut [u8],
 ) -> ServedMessage
     ensures { λ r. ⌜ tellsMessage r (now (flash .exit)) (now (memory .exit))
-        ≡ messagedRecord (board lpc timeout) (record { netfn = netfn; command = command }) (now (message .entry)) held (now (flash .entry)) (now (memory .entry)) ⌝ }
+        ≡ messagedRecord (board lpc timeout) (record { netfn = netfn; command = command }) (now (message .entry)) held (now (flash .entry)) (now (worn .entry)) (now (memory .entry)) ⌝ }
 {
     let opened = open_message(Pair { netfn, command }, held.version, message);
     let taken = opened.taken;
     let registers = opened.registers;
     match taken {
-        Taken::Command => serve_command(held, message, registers, lpc, timeout, flash, memory),
+        Taken::Command => serve_command(
+            held,
+            message,
+            registers,
+            lpc,
+            timeout,
+            flash,
+            worn,
+            memory,
+        ),
         _ => with_response(held, refuse(taken, message), 0),
     }
 }
@@ -49,12 +59,13 @@ fn serve_command(
     lpc: u16,
     timeout: u16,
     flash: &mut [u8],
+    worn: &[u8],
     memory: &mut [u8],
 ) -> ServedMessage
     ensures { λ r. ⌜ tellsMessage r (now (flash .exit)) (now (memory .exit))
-        ≡ mediatedRecord (now (message .entry)) (commanded (board lpc timeout) held registers (now (flash .entry)) (now (memory .entry))) ⌝ }
+        ≡ mediatedRecord (now (message .entry)) (commanded (board lpc timeout) held registers (now (flash .entry)) (now (worn .entry)) (now (memory .entry))) ⌝ }
 {
-    let served = serve(held, registers, lpc, timeout, flash, memory);
+    let served = serve(held, registers, lpc, timeout, flash, worn, memory);
     let after = served.held;
     let replied = served.registers;
     with_response(after, pack(message, after.version, replied), served.actions)
@@ -85,12 +96,23 @@ pub extern "C" fn hiomap_message(
     lpc: u16,
     timeout: u16,
     flash: &mut [u8],
+    worn: &[u8],
     memory: &mut [u8],
 ) -> MessageReply
     ensures { λ r. ⌜ tellsMessage (record { held = now (held .exit); reply = r }) (now (flash .exit)) (now (memory .exit))
-        ≡ messagedRecord (board lpc timeout) (record { netfn = netfn; command = command }) (now (message .entry)) (now (held .entry)) (now (flash .entry)) (now (memory .entry)) ⌝ }
+        ≡ messagedRecord (board lpc timeout) (record { netfn = netfn; command = command }) (now (message .entry)) (now (held .entry)) (now (flash .entry)) (now (worn .entry)) (now (memory .entry)) ⌝ }
 {
-    let served = serve_message(*held, netfn, command, message, lpc, timeout, flash, memory);
+    let served = serve_message(
+        *held,
+        netfn,
+        command,
+        message,
+        lpc,
+        timeout,
+        flash,
+        worn,
+        memory,
+    );
     *held = served.held;
     served.reply
 }

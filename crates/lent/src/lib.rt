@@ -20,16 +20,17 @@ pub fn serve(
     registers: [u8; 16],
     board: Board,
     flash: &mut [u8],
+    worn: &[u8],
     memory: &mut [u8],
 ) -> Reply
     ensures { λ r. ⌜ record {
-      machine = lent (now (session .exit)) (now (flash .exit)) (now (memory .exit));
+      machine = lent (now (session .exit)) (now (flash .exit)) (now (worn .entry)) (now (memory .exit));
       registers = r .registers;
       actions = r .actions;
     }
-        ≡ mediate (setUp board) registers (lent (now (session .entry)) (now (flash .entry)) (now (memory .entry))) ⌝ }
+        ≡ mediate (setUp board) registers (lent (now (session .entry)) (now (flash .entry)) (now (worn .entry)) (now (memory .entry))) ⌝ }
 {
-    let answer = command(*session, registers, board, flash, memory);
+    let answer = command(*session, registers, board, flash, worn, memory);
     *session = answer.session;
     Reply {
         registers: answer.registers,

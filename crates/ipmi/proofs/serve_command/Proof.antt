@@ -22,7 +22,7 @@ same-length-2 c = search needs
 returns : tie.Need-returns
 returns c =
     let call = c .before .before .before .before .before .before .before .command in
-    let message = c .before .before .before .before .before .before .before .before .before .before .before .before .before .args .message .now in (
+    let message = c .before .before .before .before .before .before .before .before .before .before .before .before .before .before .args .message .now in (
       ap (λ (o : Outcome). o .machine) (call .ensures),
       c .pack .ensures ∙ ap (λ (o : Outcome). laid (mediated message o .response)) (call .ensures),
       ap (λ (o : Outcome). o .actions) (call .ensures),

@@ -30,8 +30,8 @@ returns : tie.Need-returns
 returns c =
     let call = c .before .before .before .before .serve-command in
     let told = c .before .before .before .before .before .before .before .before .before .before in
-    let a = c .before .before .before .before .before .before .before .before .before .before .before .before .before .before .args in
-    let m = lent (a .session) (a .flash .now) (a .memory .now) in
+    let a = c .before .before .before .before .before .before .before .before .before .before .before .before .before .before .before .args in
+    let m = lent (a .session) (a .flash .now) (a .worn .now) (a .memory .now) in
     let opens = told .open-message in
     let same = served-command (setUp (a .board)) (a .pair) (a .message .now) m (opens .result) (opens .ensures) (c .before .before .before .before .before .before .before .enum-told .given .1) in (
       call .ensures .0 ∙ ap (λ (s : Served). s .machine) same,
@@ -41,8 +41,8 @@ returns c =
 
 returns-2 : tie.Need-returns-2
 returns-2 c =
-    let a = c .before .before .before .before .before .before .before .args in
-    let m = lent (a .session) (a .flash .now) (a .memory .now) in
+    let a = c .before .before .before .before .before .before .before .before .args in
+    let m = lent (a .session) (a .flash .now) (a .worn .now) (a .memory .now) in
     let opens = c .before .before .before .open-message in
     let same = served-refused (setUp (a .board)) (a .pair) (a .message .now) m (opens .result) (opens .ensures) (c .before .match .keys2) in (
       ap (λ (s : Served). s .machine) same,

@@ -20,7 +20,7 @@ returns c =
     let asked = c .before .before .is-regular in
     let a = c .before .before .before .before .args in
     (λ i. record { held = a .held; answer = c .unnamed .ensures i })
-    ∙ list-irregular (board (a .lpc) (a .timeout)) (a .flash) (a .memory) (a .list .now) (a .held)
+    ∙ list-irregular (board (a .lpc) (a .timeout)) (a .flash) (a .worn) (a .memory) (a .list .now) (a .held)
     (sym (asked .ensures) ∙ not-true (asked .result) (c .before .if1 .taken))
 
 session-of-requires : tie.Need-session-of-requires
@@ -43,8 +43,8 @@ returns-2 c =
     let a = c .before .before .before .before .before .before .before .args in
     let b = board (a .lpc) (a .timeout) in
     (λ i. record { held = c .before .record-of .ensures i; answer = c .list-reply-of .ensures i })
-    ∙ ap (keptList (a .held .previous)) (call .ensures ∙ ap (λ (s : Session). listed b (a .flash) (a .memory) (a .list .now) s) (session .ensures))
-    ∙ list-regular b (a .flash) (a .memory) (a .list .now) (a .held)
+    ∙ ap (keptList (a .held .previous)) (call .ensures ∙ ap (λ (s : Session). listed b (a .flash) (a .worn) (a .memory) (a .list .now) s) (session .ensures))
+    ∙ list-regular b (a .flash) (a .worn) (a .memory) (a .list .now) (a .held)
     (sym (asked .ensures) ∙ not-false (asked .result) (c .before .before .before .before .if1 .left))
 
 pub mark-all-spec : {M : Type 1} → statement M

@@ -27,13 +27,13 @@ same-length-2 c = search needs
 
 returns : tie.Need-returns
 returns c =
-    let a = c .before .before .before .before .before .before .before .before .before .before .before .before .before .args in
+    let a = c .before .before .before .before .before .before .before .before .before .before .before .before .before .before .args in
     let call = c .before .before .before .before .before .before .command in
     let asked = c .before .before .before .before .before .before .before .before .before .served-session in
     let regular = c .before .before .before .before .before .before .before .before .before .before .is-regular in
-    ap (λ (n : Record). left n (call .result .registers) (call .result .actions) (call .last .1 .1 .1 .0) (call .last .1 .1 .1 .1 .0)) (c .kept-record .ensures)
+    ap (λ (n : Record). left n (call .result .registers) (call .result .actions) (call .last .1 .1 .1 .0) (call .last .1 .1 .1 .1 .1 .0)) (c .kept-record .ensures)
     ∙ ap (passed (regular .result) (a .held)) (call .ensures)
-    ∙ commanded-passed (board (a .lpc) (a .timeout)) (a .held) (a .registers) (a .flash .now) (a .memory .now) (regular .result) (asked .result) (regular .ensures) (asked .ensures)
+    ∙ commanded-passed (board (a .lpc) (a .timeout)) (a .held) (a .registers) (a .flash .now) (a .worn .now) (a .memory .now) (regular .result) (asked .result) (regular .ensures) (asked .ensures)
 
 pub serve-spec : {M : Type 1} → statement M
 serve-spec =

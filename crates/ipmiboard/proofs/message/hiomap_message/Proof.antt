@@ -66,7 +66,7 @@ use Rattle.ipmiboard.proofs.message.hiomap_message.Code as code
 
 -- at exit each borrow of a record is still owned, nothing is had of what is plain, and each `&mut` slice was given up for good
 abbrev stayed : Stays (entry.ended .signature .params) (entry.ended .kept)
-stayed = (stay-ref (0 ∷ []) tt (plain (λ _. Record-t.the-row)), (stay-dropped (plain (λ _. u8)) yes, (stay-dropped (plain (λ _. u8)) yes, (stay-dropped (shrSliceOf (1 ∷ []) tt (plain (λ _. u8))) yes, (stay-dropped (plain (λ _. u16)) yes, (stay-dropped (plain (λ _. u16)) yes, (gave-slice (2 ∷ []) tt (plain (λ _. u8)), (gave-slice (3 ∷ []) tt (plain (λ _. u8)), tt))))))))
+stayed = (stay-ref (0 ∷ []) tt (plain (λ _. Record-t.the-row)), (stay-dropped (plain (λ _. u8)) yes, (stay-dropped (plain (λ _. u8)) yes, (stay-dropped (shrSliceOf (1 ∷ []) tt (plain (λ _. u8))) yes, (stay-dropped (plain (λ _. u16)) yes, (stay-dropped (plain (λ _. u16)) yes, (gave-slice (2 ∷ []) tt (plain (λ _. u8)), (stay-dropped (shrSliceOf (3 ∷ []) tt (plain (λ _. u8))) yes, (gave-slice (4 ∷ []) tt (plain (λ _. u8)), tt)))))))))
 
 -- what the answer's relation knows of its fields
 of-held : (r : ServedMessage) (vs : List Val) → Is ServedMessage-t.the-row r vs → Is Record-t.the-row (r .held) (LL.val Record-t.the-type Record-l.the-laws (r .held) ∷ [])
@@ -79,110 +79,111 @@ of-reply r vs g = LL.owed ServedMessage-t.the-type ServedMessage-l.the-laws r vs
 abbrev Callee : {M : Type 1} (𝓤 : URA M) (H : Heap 𝓤) (A : Atoms 𝓤) (mem : Memory → SProp 𝓤) (run : Routine → Fun 𝓤) → Contract 𝓤
 Callee 𝓤 H A mem run = tripleOf 𝓤 H A callee.signature (callee.spec 𝓤 H A mem run)
 
-module _ {M : Type 1} (𝓤 : URA M) (H : Heap 𝓤) (A : Atoms 𝓤) (W : Given 𝓤 H A) (at-mem : Memory → SProp 𝓤) (run : Routine → Fun 𝓤) (κ₀ κ₁ κ₂ κ₃ : Lft) (q₀ q₁ q₂ q₃ : Share) (b₀ o₀ : ℕ) (γ₀ : GName) (h₀ : Record) (h₁ : ℕ) (h₂ : ℕ) (h₃ : RefT (List ℕ)) (h₄ : ℕ) (h₅ : ℕ) (h₆ : RefT (List ℕ)) (h₇ : RefT (List ℕ)) where
+module _ {M : Type 1} (𝓤 : URA M) (H : Heap 𝓤) (A : Atoms 𝓤) (W : Given 𝓤 H A) (at-mem : Memory → SProp 𝓤) (run : Routine → Fun 𝓤) (κ₀ κ₁ κ₂ κ₃ κ₄ : Lft) (q₀ q₁ q₂ q₃ q₄ : Share) (b₀ o₀ : ℕ) (γ₀ : GName) (h₀ : Record) (h₁ : ℕ) (h₂ : ℕ) (h₃ : RefT (List ℕ)) (h₄ : ℕ) (h₅ : ℕ) (h₆ : RefT (List ℕ)) (h₇ : RefT (List ℕ)) (h₈ : RefT (List ℕ)) where
   abbrev Arg : Type 0
-  Arg = RefT Record × (ℕ × (ℕ × (RefT (List ℕ) × (ℕ × (ℕ × (RefT (List ℕ) × (RefT (List ℕ) × Unit {0})))))))
+  Arg = RefT Record × (ℕ × (ℕ × (RefT (List ℕ) × (ℕ × (ℕ × (RefT (List ℕ) × (RefT (List ℕ) × (RefT (List ℕ) × Unit {0}))))))))
 
   abbrev a : Arg
-  a = (record { ptr = (b₀, o₀); name = γ₀; now = h₀ }, (h₁, (h₂, (h₃, (h₄, (h₅, (h₆, (h₇, tt))))))))
+  a = (record { ptr = (b₀, o₀); name = γ₀; now = h₀ }, (h₁, (h₂, (h₃, (h₄, (h₅, (h₆, (h₇, (h₈, tt)))))))))
 
-  abbrev at : List Val × (List Val × (List Val × (List Val × (List Val × (List Val × (List Val × (List Val × Unit {0})))))))
-  at = (vptr b₀ o₀ ∷ [], (vint w8 h₁ ∷ [], (vint w8 h₂ ∷ [], (sliceVal (h₃ .ptr) (length (h₃ .now)) ∷ [], (vint w16 h₄ ∷ [], (vint w16 h₅ ∷ [], (sliceVal (h₆ .ptr) (length (h₆ .now)) ∷ [], (sliceVal (h₇ .ptr) (length (h₇ .now)) ∷ [], tt))))))))
+  abbrev at : List Val × (List Val × (List Val × (List Val × (List Val × (List Val × (List Val × (List Val × (List Val × Unit {0}))))))))
+  at = (vptr b₀ o₀ ∷ [], (vint w8 h₁ ∷ [], (vint w8 h₂ ∷ [], (sliceVal (h₃ .ptr) (length (h₃ .now)) ∷ [], (vint w16 h₄ ∷ [], (vint w16 h₅ ∷ [], (sliceVal (h₆ .ptr) (length (h₆ .now)) ∷ [], (sliceVal (h₇ .ptr) (length (h₇ .now)) ∷ [], (sliceVal (h₈ .ptr) (length (h₈ .now)) ∷ [], tt)))))))))
 
   abbrev Post : Val → SProp 𝓤
-  Post = walkOf 𝓤 H A entry.ended stayed (entry.clauses 𝓤 H A at-mem run) .post (((κ₀, (κ₁, (κ₂, (κ₃, tt)))), (q₀, (q₁, (q₂, (q₃, tt)))), tt, a, at), tt)
+  Post = walkOf 𝓤 H A entry.ended stayed (entry.clauses 𝓤 H A at-mem run) .post (((κ₀, (κ₁, (κ₂, (κ₃, (κ₄, tt))))), (q₀, (q₁, (q₂, (q₃, (q₄, tt))))), tt, a, at), tt)
 
   -- what `serve_message` ensures
   abbrev Ensures : ServedMessage → List ℕ → List ℕ → Type 0
-  Ensures r zs₆ zs₇ = tellsMessage r zs₆ zs₇ ≡ messagedRecord (board h₄ h₅) (record { netfn = h₁; command = h₂ }) (h₃ .now) h₀ (h₆ .now) (h₇ .now)
+  Ensures r zs₆ zs₈ = tellsMessage r zs₆ zs₈ ≡ messagedRecord (board h₄ h₅) (record { netfn = h₁; command = h₂ }) (h₃ .now) h₀ (h₆ .now) (h₇ .now) (h₈ .now)
 
-  -- the end: [obs 0; borrow 0; κ₀'s token; lent; last 6; last 7]
-  exits : (r : ServedMessage) (zs₆ zs₇ : List ℕ) → Ensures r zs₆ zs₇ → length zs₆ ≡ length (h₆ .now) → length zs₇ ≡ length (h₇ .now) → Is MessageReply-t.the-row (r .reply) (LL.val MessageReply-t.the-type MessageReply-l.the-laws (r .reply) ∷ [])
-      → ent 𝓤 (⋆ 𝓤 H A (‵ (fobs γ₀ (Record-t.the-row .coded .code (r .held))) ∷ ‵ (fbor κ₀ (Body (mem Record-t.the-row) b₀ o₀ γ₀)) ∷ ‵ (flft κ₀ q₀) ∷ (‵ (flft κ₁ q₁) ⊛ ‵ (flft κ₂ q₂) ⊛ ‵ (flft κ₃ q₃) ⊛ ‵ ftrue) ∷ ‵ (finally u8 (h₆ .name) zs₆) ∷ ‵ (finally u8 (h₇ .name) zs₇) ∷ [])) (Post (LL.val MessageReply-t.the-type MessageReply-l.the-laws (r .reply)))
-  exits r zs₆ zs₇ e long₆ long₇ is =
-      qed W (‵ (fobs γ₀ (Record-t.the-row .coded .code (r .held))) ∷ ‵ (fbor κ₀ (Body (mem Record-t.the-row) b₀ o₀ γ₀)) ∷ ‵ (flft κ₀ q₀) ∷ (‵ (flft κ₁ q₁) ⊛ ‵ (flft κ₂ q₂) ⊛ ‵ (flft κ₃ q₃) ⊛ ‵ ftrue) ∷ ‵ (finally u8 (h₆ .name) zs₆) ∷ ‵ (finally u8 (h₇ .name) zs₇) ∷ []) ∵
-      suffices ! _ (ends-at 𝓤 H A entry.ended stayed (entry.clauses 𝓤 H A at-mem run) W (((κ₀, (κ₁, (κ₂, (κ₃, tt)))), (q₀, (q₁, (q₂, (q₃, tt)))), tt, a, at), tt) (LL.val MessageReply-t.the-type MessageReply-l.the-laws (r .reply)) (r .reply) ((r .held), (tt, (tt, (tt, (tt, (tt, (zs₆, (zs₇, tt)))))))) (tt, (tt, (tt, (tt, (tt, (tt, (long₆, (long₇, tt))))))))) $
+  -- the end: [obs 0; borrow 0; κ₀'s token; lent; last 6; last 8]
+  exits : (r : ServedMessage) (zs₆ zs₈ : List ℕ) → Ensures r zs₆ zs₈ → length zs₆ ≡ length (h₆ .now) → length zs₈ ≡ length (h₈ .now) → Is MessageReply-t.the-row (r .reply) (LL.val MessageReply-t.the-type MessageReply-l.the-laws (r .reply) ∷ [])
+      → ent 𝓤 (⋆ 𝓤 H A (‵ (fobs γ₀ (Record-t.the-row .coded .code (r .held))) ∷ ‵ (fbor κ₀ (Body (mem Record-t.the-row) b₀ o₀ γ₀)) ∷ ‵ (flft κ₀ q₀) ∷ (‵ (flft κ₁ q₁) ⊛ ‵ (flft κ₂ q₂) ⊛ ‵ (flft κ₃ q₃) ⊛ ‵ (flft κ₄ q₄) ⊛ ‵ ftrue) ∷ ‵ (finally u8 (h₆ .name) zs₆) ∷ ‵ (finally u8 (h₈ .name) zs₈) ∷ [])) (Post (LL.val MessageReply-t.the-type MessageReply-l.the-laws (r .reply)))
+  exits r zs₆ zs₈ e long₆ long₈ is =
+      qed W (‵ (fobs γ₀ (Record-t.the-row .coded .code (r .held))) ∷ ‵ (fbor κ₀ (Body (mem Record-t.the-row) b₀ o₀ γ₀)) ∷ ‵ (flft κ₀ q₀) ∷ (‵ (flft κ₁ q₁) ⊛ ‵ (flft κ₂ q₂) ⊛ ‵ (flft κ₃ q₃) ⊛ ‵ (flft κ₄ q₄) ⊛ ‵ ftrue) ∷ ‵ (finally u8 (h₆ .name) zs₆) ∷ ‵ (finally u8 (h₈ .name) zs₈) ∷ []) ∵
+      suffices ! _ (ends-at 𝓤 H A entry.ended stayed (entry.clauses 𝓤 H A at-mem run) W (((κ₀, (κ₁, (κ₂, (κ₃, (κ₄, tt))))), (q₀, (q₁, (q₂, (q₃, (q₄, tt))))), tt, a, at), tt) (LL.val MessageReply-t.the-type MessageReply-l.the-laws (r .reply)) (r .reply) ((r .held), (tt, (tt, (tt, (tt, (tt, (zs₆, (tt, (zs₈, tt))))))))) (tt, (tt, (tt, (tt, (tt, (tt, (long₆, (tt, (long₈, tt)))))))))) $
       says ! (e) $
-      move ! (3 ∷ []) $ split ! $ move ! (1 ∷ []) $ split ! $ move ! (1 ∷ []) $ split ! $ join ! $ move ! (1 ∷ 0 ∷ []) $ join ! $ move ! (1 ∷ 0 ∷ []) $ join ! $ move ! (3 ∷ 0 ∷ []) $ join ! $ frame ! $ nothing ! $
-      move ! (4 ∷ 0 ∷ []) $ fjoin ! $ move ! (3 ∷ 0 ∷ []) $ fjoin ! $ nothing ! $ fjoin ! $ nothing ! $ fjoin ! $ nothing ! $ fjoin ! $ nothing ! $ fjoin ! $ nothing ! $ fjoin ! $ move ! (1 ∷ 2 ∷ []) $
-      feqI ! (List Val) (vptr b₀ o₀ ∷ []) (vptr b₀ o₀ ∷ []) refl $ fjoin3 ! $ fjoin ! $
+      move ! (3 ∷ []) $ split ! $ move ! (1 ∷ []) $ split ! $ move ! (1 ∷ []) $ split ! $ move ! (1 ∷ []) $ split ! $ join ! $ move ! (1 ∷ 0 ∷ []) $ join ! $ move ! (1 ∷ 0 ∷ []) $ join ! $ move ! (1 ∷ 0 ∷ []) $ join ! $
+      move ! (3 ∷ 0 ∷ []) $ join ! $ frame ! $ nothing ! $ move ! (4 ∷ 0 ∷ []) $ fjoin ! $ nothing ! $ fjoin ! $ move ! (3 ∷ 0 ∷ []) $ fjoin ! $ nothing ! $ fjoin ! $ nothing ! $ fjoin ! $ nothing ! $ fjoin ! $ nothing ! $
+      fjoin ! $ nothing ! $ fjoin ! $ move ! (1 ∷ 2 ∷ []) $ feqI ! (List Val) (vptr b₀ o₀ ∷ []) (vptr b₀ o₀ ∷ []) refl $ fjoin3 ! $ fjoin ! $
       owned ! MessageReply-t.the-row (Is MessageReply-t.the-row) (LL.makes MessageReply-t.the-type MessageReply-l.the-plain 𝓤 H A) (r .reply) _ is $ move ! (1 ∷ 0 ∷ []) $ done !
 
   -- what `serve_message`'s triple binds outside: the values, and the slices at their own lifetimes, shares and names
-  abbrev κc : Lft × (Lft × (Lft × Unit {0}))
-  κc = (κ₁, (κ₂, (κ₃, tt)))
+  abbrev κc : Lft × (Lft × (Lft × (Lft × Unit {0})))
+  κc = (κ₁, (κ₂, (κ₃, (κ₄, tt))))
 
-  abbrev ac : Record × (ℕ × (ℕ × (RefT (List ℕ) × (ℕ × (ℕ × (RefT (List ℕ) × (RefT (List ℕ) × Unit {0})))))))
-  ac = (h₀, (h₁, (h₂, (h₃, (h₄, (h₅, (h₆, (h₇, tt))))))))
+  abbrev ac : Record × (ℕ × (ℕ × (RefT (List ℕ) × (ℕ × (ℕ × (RefT (List ℕ) × (RefT (List ℕ) × (RefT (List ℕ) × Unit {0}))))))))
+  ac = (h₀, (h₁, (h₂, (h₃, (h₄, (h₅, (h₆, (h₇, (h₈, tt)))))))))
 
-  abbrev vc : List Val × (List Val × (List Val × (List Val × (List Val × (List Val × (List Val × (List Val × Unit {0})))))))
-  vc = (LL.val Record-t.the-type Record-l.the-laws h₀ ∷ [], (vint w8 h₁ ∷ [], (vint w8 h₂ ∷ [], (sliceVal (h₃ .ptr) (length (h₃ .now)) ∷ [], (vint w16 h₄ ∷ [], (vint w16 h₅ ∷ [], (sliceVal (h₆ .ptr) (length (h₆ .now)) ∷ [], (sliceVal (h₇ .ptr) (length (h₇ .now)) ∷ [], tt))))))))
+  abbrev vc : List Val × (List Val × (List Val × (List Val × (List Val × (List Val × (List Val × (List Val × (List Val × Unit {0}))))))))
+  vc = (LL.val Record-t.the-type Record-l.the-laws h₀ ∷ [], (vint w8 h₁ ∷ [], (vint w8 h₂ ∷ [], (sliceVal (h₃ .ptr) (length (h₃ .now)) ∷ [], (vint w16 h₄ ∷ [], (vint w16 h₅ ∷ [], (sliceVal (h₆ .ptr) (length (h₆ .now)) ∷ [], (sliceVal (h₇ .ptr) (length (h₇ .now)) ∷ [], (sliceVal (h₈ .ptr) (length (h₈ .now)) ∷ [], tt)))))))))
 
   abbrev to-callee : Callee 𝓤 H A at-mem run .Ghost
-  to-callee = ((κc, (q₁, (q₂, (q₃, tt))), tt, ac, vc), tt)
+  to-callee = ((κc, (q₁, (q₂, (q₃, (q₄, tt)))), tt, ac, vc), tt)
 
-  goes-callee : ent 𝓤 (sep 𝓤 (sep 𝓤 (A .lft κ₁ q₁) (sep 𝓤 (A .lft κ₂ q₂) (sep 𝓤 (A .lft κ₃ q₃) (sem 𝓤 H A ftrue)))) (sem 𝓤 H A (owns (Record-t.the-row ∷ u8 ∷ u8 ∷ ShrSlice (named 0) κ₁ u8 ∷ u16 ∷ u16 ∷ MutSlice (named 0) κ₂ u8 ∷ MutSlice (named 0) κ₃ u8 ∷ []) ac vc))) (Callee 𝓤 H A at-mem run .pre to-callee)
-  goes-callee = qed W ((‵ (flft κ₁ q₁) ⊛ ‵ (flft κ₂ q₂) ⊛ ‵ (flft κ₃ q₃) ⊛ ‵ ftrue) ∷ ‵ (owns (Record-t.the-row ∷ u8 ∷ u8 ∷ ShrSlice (named 0) κ₁ u8 ∷ u16 ∷ u16 ∷ MutSlice (named 0) κ₂ u8 ∷ MutSlice (named 0) κ₃ u8 ∷ []) ac vc) ∷ []) ∵ join ! $ frame ! $ done !
+  goes-callee : ent 𝓤 (sep 𝓤 (sep 𝓤 (A .lft κ₁ q₁) (sep 𝓤 (A .lft κ₂ q₂) (sep 𝓤 (A .lft κ₃ q₃) (sep 𝓤 (A .lft κ₄ q₄) (sem 𝓤 H A ftrue))))) (sem 𝓤 H A (owns (Record-t.the-row ∷ u8 ∷ u8 ∷ ShrSlice (named 0) κ₁ u8 ∷ u16 ∷ u16 ∷ MutSlice (named 0) κ₂ u8 ∷ ShrSlice (named 0) κ₃ u8 ∷ MutSlice (named 0) κ₄ u8 ∷ []) ac vc))) (Callee 𝓤 H A at-mem run .pre to-callee)
+  goes-callee = qed W ((‵ (flft κ₁ q₁) ⊛ ‵ (flft κ₂ q₂) ⊛ ‵ (flft κ₃ q₃) ⊛ ‵ (flft κ₄ q₄) ⊛ ‵ ftrue) ∷ ‵ (owns (Record-t.the-row ∷ u8 ∷ u8 ∷ ShrSlice (named 0) κ₁ u8 ∷ u16 ∷ u16 ∷ MutSlice (named 0) κ₂ u8 ∷ ShrSlice (named 0) κ₃ u8 ∷ MutSlice (named 0) κ₄ u8 ∷ []) ac vc) ∷ []) ∵ join ! $ frame ! $ done !
 
   module _ (C : Calls 𝓤 H) (Λ : Loops 𝓤 H) (fm : FmC 𝓤 H (W .laws) C) (known : Triple 𝓤 (C #callee) (Callee 𝓤 H A at-mem run)) where
-    walk : Is u8 h₁ (vint w8 h₁ ∷ []) → Is u8 h₂ (vint w8 h₂ ∷ []) → Is u16 h₄ (vint w16 h₄ ∷ []) → Is u16 h₅ (vint w16 h₅ ∷ []) → Room u8 (length (h₃ .now)) → Room u8 (length (h₆ .now)) → Room u8 (length (h₇ .now)) → ent 𝓤 (onEntry 𝓤 H A entry.signature (κ₀, (κ₁, (κ₂, (κ₃, tt)))) (q₀, (q₁, (q₂, (q₃, tt)))) a at) (WpFn 𝓤 H C Λ code.function (vptr b₀ o₀ ∷ vint w8 h₁ ∷ vint w8 h₂ ∷ sliceVal (h₃ .ptr) (length (h₃ .now)) ∷ vint w16 h₄ ∷ vint w16 h₅ ∷ sliceVal (h₆ .ptr) (length (h₆ .now)) ∷ sliceVal (h₇ .ptr) (length (h₇ .now)) ∷ []) Post)
-    walk was₁ was₂ was₄ was₅ room₃ room₆ room₇ =
-        qed W ((‵ (flft κ₀ q₀) ⊛ ‵ (flft κ₁ q₁) ⊛ ‵ (flft κ₂ q₂) ⊛ ‵ (flft κ₃ q₃) ⊛ ‵ ftrue) ∷ ‵ (owns (MutRef (named 0) κ₀ Record-t.the-row ∷ u8 ∷ u8 ∷ ShrSlice (named 1) κ₁ u8 ∷ u16 ∷ u16 ∷ MutSlice (named 2) κ₂ u8 ∷ MutSlice (named 3) κ₃ u8 ∷ []) a at) ∷ []) ∵
-        enter ! C Λ code.function (vptr b₀ o₀ ∷ vint w8 h₁ ∷ vint w8 h₂ ∷ sliceVal (h₃ .ptr) (length (h₃ .now)) ∷ vint w16 h₄ ∷ vint w16 h₅ ∷ sliceVal (h₆ .ptr) (length (h₆ .now)) ∷ sliceVal (h₇ .ptr) (length (h₇ .now)) ∷ []) _ $
-        alloc1 ! (λ l₀. alloc1 ! (λ l₁. alloc1 ! (λ l₂. alloc1 ! (λ l₃. alloc1 ! (λ l₄. alloc1 ! (λ l₅. alloc1 ! (λ l₆. alloc1 ! (λ l₇. alloc1 ! (λ l₈. alloc1 ! (λ l₉. alloc1 ! (λ l₁₀. alloc1 ! (λ l₁₁. alloc1 ! (λ l₁₂. alloc1 ! (λ l₁₃. alloc1 ! (λ l₁₄. alloc0 ! $
-        params1 ! $ pass1 ! (init ! 26 refl (tt, tt)) $ pass1 ! (init ! 24 refl (tt, record { fits = was₁ .1 })) $ pass1 ! (init ! 22 refl (tt, record { fits = was₂ .1 })) $
-        pass1 ! (init ! 20 refl (tt, (tt, (record { fits = room₃ .0 }, tt)))) $ pass1 ! (init ! 18 refl (tt, record { fits = was₄ .1 })) $ pass1 ! (init ! 16 refl (tt, record { fits = was₅ .1 })) $
-        pass1 ! (init ! 14 refl (tt, (tt, (record { fits = room₆ .0 }, tt)))) $ pass1 ! (init ! 12 refl (tt, (tt, (record { fits = room₇ .0 }, tt)))) $ pass0 ! $
+    walk : Is u8 h₁ (vint w8 h₁ ∷ []) → Is u8 h₂ (vint w8 h₂ ∷ []) → Is u16 h₄ (vint w16 h₄ ∷ []) → Is u16 h₅ (vint w16 h₅ ∷ []) → Room u8 (length (h₃ .now)) → Room u8 (length (h₆ .now)) → Room u8 (length (h₇ .now)) → Room u8 (length (h₈ .now)) → ent 𝓤 (onEntry 𝓤 H A entry.signature (κ₀, (κ₁, (κ₂, (κ₃, (κ₄, tt))))) (q₀, (q₁, (q₂, (q₃, (q₄, tt))))) a at) (WpFn 𝓤 H C Λ code.function (vptr b₀ o₀ ∷ vint w8 h₁ ∷ vint w8 h₂ ∷ sliceVal (h₃ .ptr) (length (h₃ .now)) ∷ vint w16 h₄ ∷ vint w16 h₅ ∷ sliceVal (h₆ .ptr) (length (h₆ .now)) ∷ sliceVal (h₇ .ptr) (length (h₇ .now)) ∷ sliceVal (h₈ .ptr) (length (h₈ .now)) ∷ []) Post)
+    walk was₁ was₂ was₄ was₅ room₃ room₆ room₇ room₈ =
+        qed W ((‵ (flft κ₀ q₀) ⊛ ‵ (flft κ₁ q₁) ⊛ ‵ (flft κ₂ q₂) ⊛ ‵ (flft κ₃ q₃) ⊛ ‵ (flft κ₄ q₄) ⊛ ‵ ftrue) ∷ ‵ (owns (MutRef (named 0) κ₀ Record-t.the-row ∷ u8 ∷ u8 ∷ ShrSlice (named 1) κ₁ u8 ∷ u16 ∷ u16 ∷ MutSlice (named 2) κ₂ u8 ∷ ShrSlice (named 3) κ₃ u8 ∷ MutSlice (named 4) κ₄ u8 ∷ []) a at) ∷ []) ∵
+        enter ! C Λ code.function (vptr b₀ o₀ ∷ vint w8 h₁ ∷ vint w8 h₂ ∷ sliceVal (h₃ .ptr) (length (h₃ .now)) ∷ vint w16 h₄ ∷ vint w16 h₅ ∷ sliceVal (h₆ .ptr) (length (h₆ .now)) ∷ sliceVal (h₇ .ptr) (length (h₇ .now)) ∷ sliceVal (h₈ .ptr) (length (h₈ .now)) ∷ []) _ $
+        alloc1 ! (λ l₀. alloc1 ! (λ l₁. alloc1 ! (λ l₂. alloc1 ! (λ l₃. alloc1 ! (λ l₄. alloc1 ! (λ l₅. alloc1 ! (λ l₆. alloc1 ! (λ l₇. alloc1 ! (λ l₈. alloc1 ! (λ l₉. alloc1 ! (λ l₁₀. alloc1 ! (λ l₁₁. alloc1 ! (λ l₁₂. alloc1 ! (λ l₁₃. alloc1 ! (λ l₁₄. alloc1 ! (λ l₁₅. alloc0 ! $
+        params1 ! $ pass1 ! (init ! 28 refl (tt, tt)) $ pass1 ! (init ! 26 refl (tt, record { fits = was₁ .1 })) $ pass1 ! (init ! 24 refl (tt, record { fits = was₂ .1 })) $
+        pass1 ! (init ! 22 refl (tt, (tt, (record { fits = room₃ .0 }, tt)))) $ pass1 ! (init ! 20 refl (tt, record { fits = was₄ .1 })) $ pass1 ! (init ! 18 refl (tt, record { fits = was₅ .1 })) $
+        pass1 ! (init ! 16 refl (tt, (tt, (record { fits = room₆ .0 }, tt)))) $ pass1 ! (init ! 14 refl (tt, (tt, (record { fits = room₇ .0 }, tt)))) $ pass1 ! (init ! 12 refl (tt, (tt, (record { fits = room₈ .0 }, tt)))) $
+        pass0 ! $
         -- the tokens, and what the parameters own
-        move ! (30 ∷ []) $ split ! $ move ! (1 ∷ []) $ split ! $ move ! (1 ∷ []) $ split ! $ move ! (1 ∷ []) $ split ! $ move ! (1 ∷ []) $ drop ! $ move ! (34 ∷ []) $ fsplit ! $ move ! (1 ∷ []) $ fsplit ! $ move ! (1 ∷ []) $
-        fsplit ! $ move ! (1 ∷ []) $ fsplit ! $ move ! (1 ∷ []) $ fsplit ! $ move ! (1 ∷ []) $ fsplit ! $ move ! (1 ∷ []) $ fsplit ! $ move ! (1 ∷ []) $ fsplit ! $ move ! (1 ∷ []) $ drop ! $ move ! (7 ∷ []) $ fsplit3 ! $
-        drop ! $
+        move ! (32 ∷ []) $ split ! $ move ! (1 ∷ []) $ split ! $ move ! (1 ∷ []) $ split ! $ move ! (1 ∷ []) $ split ! $ move ! (1 ∷ []) $ split ! $ move ! (1 ∷ []) $ drop ! $ move ! (37 ∷ []) $ fsplit ! $ move ! (1 ∷ []) $
+        fsplit ! $ move ! (1 ∷ []) $ fsplit ! $ move ! (1 ∷ []) $ fsplit ! $ move ! (1 ∷ []) $ fsplit ! $ move ! (1 ∷ []) $ fsplit ! $ move ! (1 ∷ []) $ fsplit ! $ move ! (1 ∷ []) $ fsplit ! $ move ! (1 ∷ []) $ fsplit ! $
+        move ! (1 ∷ []) $ drop ! $ move ! (8 ∷ []) $ fsplit3 ! $ drop ! $
         -- the borrow of parameter 0 is opened
-        move ! (0 ∷ 1 ∷ 12 ∷ []) $
+        move ! (0 ∷ 1 ∷ 14 ∷ []) $
         opens ! tt Record-t.the-row {h = h₀} b₀ o₀ (λ vs₀. spelt ! Record-t.the-row (Is Record-t.the-row) (shows 𝓤 H A Record-t.the-row) (LL.vals Record-t.the-type Record-l.the-laws) (LL.tells Record-t.the-type Record-l.the-laws) fullShare h₀ vs₀ b₀ o₀ $
         move ! (1 ∷ []) $ peeks ! Record-t.the-row (Is Record-t.the-row) (shows 𝓤 H A Record-t.the-row) h₀ (LL.val Record-t.the-type Record-l.the-laws h₀ ∷ []) (λ was₀. drop ! $
-        -- [cell 0; open 0; obs 0; auth 0; own 7; own 6; own 5; own 4; own 3; own 2; own 1; κ₃'s token; κ₂'s token; κ₁'s token; _14; _13; _12; _11; _10; _9; _8; _7; _6; _5; _4; _3; _2; _1; _0]
-        assigns ! (of-opd ! (load ! (from ! (hop ! (look ! 40 refl) (stop !))) (look-raw ! 0 refl))) (from ! (stop !)) (init ! 22 refl (LL.lawful Record-t.the-type Record-l.the-laws 𝓤 H A W .typed h₀ _ was₀ .0)) $
-        assigns ! (addr ! (from ! (fld ! refl (hop ! (look-in ! 28 (sub ! 0 refl (whole !))) (stop !))))) (from ! (stop !)) (init ! 20 refl (tt, tt)) $
-        assigns ! (agg ! (and-then ! (load ! (from ! (stop !)) (look ! 20 refl)) (and-then ! (load ! (from ! (fld ! refl (stop !))) (look-in ! 28 (sub ! 1 refl (whole !)))) (no-more !)))) (from ! (stop !)) (init ! 18 refl (tt, (tt, (record { fits = room₆ .0 }, tt)))) $
-        assigns ! (addr ! (from ! (fld ! refl (hop ! (look-in ! 26 (sub ! 0 refl (whole !))) (stop !))))) (from ! (stop !)) (init ! 16 refl (tt, tt)) $
-        assigns ! (agg ! (and-then ! (load ! (from ! (stop !)) (look ! 16 refl)) (and-then ! (load ! (from ! (fld ! refl (stop !))) (look-in ! 26 (sub ! 1 refl (whole !)))) (no-more !)))) (from ! (stop !)) (init ! 14 refl (tt, (tt, (record { fits = room₇ .0 }, tt)))) $
+        -- [cell 0; open 0; obs 0; auth 0; own 8; own 7; own 6; own 5; own 4; own 3; own 2; own 1; κ₄'s token; κ₃'s token; κ₂'s token; κ₁'s token; _15; _14; _13; _12; _11; _10; _9; _8; _7; _6; _5; _4; _3; _2; _1; _0]
+        assigns ! (of-opd ! (load ! (from ! (hop ! (look ! 44 refl) (stop !))) (look-raw ! 0 refl))) (from ! (stop !)) (init ! 24 refl (LL.lawful Record-t.the-type Record-l.the-laws 𝓤 H A W .typed h₀ _ was₀ .0)) $
+        assigns ! (addr ! (from ! (fld ! refl (hop ! (look-in ! 32 (sub ! 0 refl (whole !))) (stop !))))) (from ! (stop !)) (init ! 22 refl (tt, tt)) $
+        assigns ! (agg ! (and-then ! (load ! (from ! (stop !)) (look ! 22 refl)) (and-then ! (load ! (from ! (fld ! refl (stop !))) (look-in ! 32 (sub ! 1 refl (whole !)))) (no-more !)))) (from ! (stop !)) (init ! 20 refl (tt, (tt, (record { fits = room₆ .0 }, tt)))) $
+        assigns ! (addr ! (from ! (fld ! refl (hop ! (look-in ! 28 (sub ! 0 refl (whole !))) (stop !))))) (from ! (stop !)) (init ! 18 refl (tt, tt)) $
+        assigns ! (agg ! (and-then ! (load ! (from ! (stop !)) (look ! 18 refl)) (and-then ! (load ! (from ! (fld ! refl (stop !))) (look-in ! 28 (sub ! 1 refl (whole !)))) (no-more !)))) (from ! (stop !)) (init ! 16 refl (tt, (tt, (record { fits = room₈ .0 }, tt)))) $
         -- the call: what `serve_message` asks of its arguments, and the tokens of the slices
         nothing ! $ move ! (5 ∷ 0 ∷ []) $ fjoin ! $ move ! (5 ∷ 0 ∷ []) $ fjoin ! $ move ! (5 ∷ 0 ∷ []) $ fjoin ! $ move ! (5 ∷ 0 ∷ []) $ fjoin ! $ move ! (5 ∷ 0 ∷ []) $ fjoin ! $ move ! (5 ∷ 0 ∷ []) $ fjoin ! $
-        move ! (5 ∷ 0 ∷ []) $ fjoin ! $ owned ! Record-t.the-row (Is Record-t.the-row) (LL.makes Record-t.the-type Record-l.the-plain 𝓤 H A) h₀ _ was₀ $ fjoin ! $ nothing ! $ move ! (6 ∷ 0 ∷ []) $ join ! $ move ! (6 ∷ 0 ∷ []) $
-        join ! $ move ! (6 ∷ 0 ∷ []) $ join ! $ use2 W (raw (Callee 𝓤 H A at-mem run .pre to-callee)) goes-callee $
-        calls-at ! fm (Callee 𝓤 H A at-mem run) known to-callee (and-then ! (load ! (from ! (stop !)) (look ! 13 refl)) (and-then ! (load ! (from ! (stop !)) (look ! 29 refl)) (and-then ! (load ! (from ! (stop !)) (look ! 27 refl)) (and-then ! (load ! (from ! (stop !)) (look ! 25 refl)) (and-then ! (load ! (from ! (stop !)) (look ! 23 refl)) (and-then ! (load ! (from ! (stop !)) (look ! 21 refl)) (and-then ! (load ! (from ! (stop !)) (look ! 9 refl)) (and-then ! (load ! (from ! (stop !)) (look ! 5 refl)) (no-more !))))))))) (λ v.
-        use1 W (later (some (λ (r : ServedMessage). ((‵ (flft κ₁ q₁) ⊛ ‵ (flft κ₂ q₂) ⊛ ‵ (flft κ₃ q₃) ⊛ ‵ ftrue) ⊛ ‵ (ServedMessage-t.the-row .own r (v ∷ []))) ⊛ raw (ensured 𝓤 H A callee.ended (callee.clauses 𝓤 H A at-mem run) κc ac tt r)))) (id⊢ 𝓤 _) $ await ! tt $ pick ! (λ r.
+        move ! (5 ∷ 0 ∷ []) $ fjoin ! $ move ! (5 ∷ 0 ∷ []) $ fjoin ! $ owned ! Record-t.the-row (Is Record-t.the-row) (LL.makes Record-t.the-type Record-l.the-plain 𝓤 H A) h₀ _ was₀ $ fjoin ! $ nothing ! $
+        move ! (6 ∷ 0 ∷ []) $ join ! $ move ! (6 ∷ 0 ∷ []) $ join ! $ move ! (6 ∷ 0 ∷ []) $ join ! $ move ! (6 ∷ 0 ∷ []) $ join ! $ use2 W (raw (Callee 𝓤 H A at-mem run .pre to-callee)) goes-callee $
+        calls-at ! fm (Callee 𝓤 H A at-mem run) known to-callee (and-then ! (load ! (from ! (stop !)) (look ! 13 refl)) (and-then ! (load ! (from ! (stop !)) (look ! 31 refl)) (and-then ! (load ! (from ! (stop !)) (look ! 29 refl)) (and-then ! (load ! (from ! (stop !)) (look ! 27 refl)) (and-then ! (load ! (from ! (stop !)) (look ! 25 refl)) (and-then ! (load ! (from ! (stop !)) (look ! 23 refl)) (and-then ! (load ! (from ! (stop !)) (look ! 9 refl)) (and-then ! (load ! (from ! (stop !)) (look ! 19 refl)) (and-then ! (load ! (from ! (stop !)) (look ! 5 refl)) (no-more !)))))))))) (λ v.
+        use1 W (later (some (λ (r : ServedMessage). ((‵ (flft κ₁ q₁) ⊛ ‵ (flft κ₂ q₂) ⊛ ‵ (flft κ₃ q₃) ⊛ ‵ (flft κ₄ q₄) ⊛ ‵ ftrue) ⊛ ‵ (ServedMessage-t.the-row .own r (v ∷ []))) ⊛ raw (ensured 𝓤 H A callee.ended (callee.clauses 𝓤 H A at-mem run) κc ac tt r)))) (id⊢ 𝓤 _) $ await ! tt $ pick ! (λ r.
         -- what `serve_message` ensures, at some last lists
         split ! $ move ! (1 ∷ []) $
-        use1 W (some (λ (zs : Unit {0} × (Unit {0} × (Unit {0} × (Unit {0} × (Unit {0} × (Unit {0} × (List ℕ × (List ℕ × Unit {0})))))))). ‵ (lasts callee.ended κc ac zs) ⊛ raw (fact 𝓤 (Ensures r (zs .1 .1 .1 .1 .1 .1 .0) (zs .1 .1 .1 .1 .1 .1 .1 .0))))) (id⊢ 𝓤 _) $ pick ! (λ zs. split ! $
-        move ! (1 ∷ []) $ heard ! (Ensures r (zs .1 .1 .1 .1 .1 .1 .0) (zs .1 .1 .1 .1 .1 .1 .1 .0)) (λ e. fsplit ! $ drop ! $ fsplit ! $ drop ! $ fsplit ! $ drop ! $ fsplit ! $ drop ! $ fsplit ! $ drop ! $ fsplit ! $ drop ! $
-        fsplit ! $ fsplit ! $ move ! (1 ∷ []) $ feqL ! (λ long₆. move ! (1 ∷ []) $ fsplit ! $ fsplit ! $ move ! (1 ∷ []) $ feqL ! (λ long₇. move ! (1 ∷ []) $ drop ! $ move ! (2 ∷ []) $ split ! $ move ! (1 ∷ []) $
-        peeks ! ServedMessage-t.the-row (Is ServedMessage-t.the-row) (shows 𝓤 H A ServedMessage-t.the-row) r (v ∷ []) (λ is. drop ! $
-        -- [lent; last 7; last 6; cell 0; open 0; obs 0; auth 0; _14; _13; _12; _11; _10; _9; _8; _7; _6; _5; _4; _3; _2; _1; _0]
+        use1 W (some (λ (zs : Unit {0} × (Unit {0} × (Unit {0} × (Unit {0} × (Unit {0} × (Unit {0} × (List ℕ × (Unit {0} × (List ℕ × Unit {0}))))))))). ‵ (lasts callee.ended κc ac zs) ⊛ raw (fact 𝓤 (Ensures r (zs .1 .1 .1 .1 .1 .1 .0) (zs .1 .1 .1 .1 .1 .1 .1 .1 .0))))) (id⊢ 𝓤 _) $ pick ! (λ zs. split ! $
+        move ! (1 ∷ []) $ heard ! (Ensures r (zs .1 .1 .1 .1 .1 .1 .0) (zs .1 .1 .1 .1 .1 .1 .1 .1 .0)) (λ e. fsplit ! $ drop ! $ fsplit ! $ drop ! $ fsplit ! $ drop ! $ fsplit ! $ drop ! $ fsplit ! $ drop ! $ fsplit ! $
+        drop ! $ fsplit ! $ fsplit ! $ move ! (1 ∷ []) $ feqL ! (λ long₆. move ! (1 ∷ []) $ fsplit ! $ drop ! $ fsplit ! $ fsplit ! $ move ! (1 ∷ []) $ feqL ! (λ long₈. move ! (1 ∷ []) $ drop ! $ move ! (2 ∷ []) $ split ! $
+        move ! (1 ∷ []) $ peeks ! ServedMessage-t.the-row (Is ServedMessage-t.the-row) (shows 𝓤 H A ServedMessage-t.the-row) r (v ∷ []) (λ is. drop ! $
+        -- [lent; last 8; last 6; cell 0; open 0; obs 0; auth 0; _15; _14; _13; _12; _11; _10; _9; _8; _7; _6; _5; _4; _3; _2; _1; _0]
         land ! (from ! (stop !)) (init ! 17 refl (LL.lawful ServedMessage-t.the-type ServedMessage-l.the-laws 𝓤 H A W .typed r _ is .0)) $
-        rewrite ! 17 (λ (u : Val). ‵ (fat fullShare ServedMessage-l.mir l₉ 0 u)) (ap only ((LL.tells ServedMessage-t.the-type ServedMessage-l.the-laws) r _ is)) refl $
-        assigns ! (of-opd ! (load ! (from ! (fld ! refl (stop !))) (look-in ! 17 (sub ! 0 refl (whole !))))) (from ! (hop ! (look ! 33 refl) (stop !))) (store-raw ! 3 refl (LL.lawful Record-t.the-type Record-l.the-laws 𝓤 H A W .typed (r .held) _ (of-held r _ is) .0)) $
-        assigns ! (of-opd ! (load ! (from ! (fld ! refl (stop !))) (look-in ! 17 (sub ! 1 refl (whole !))))) (from ! (stop !)) (init ! 35 refl (LL.lawful MessageReply-t.the-type MessageReply-l.the-laws 𝓤 H A W .typed (r .reply) _ (of-reply r _ is) .0)) $
+        rewrite ! 17 (λ (u : Val). ‵ (fat fullShare ServedMessage-l.mir l₁₀ 0 u)) (ap only ((LL.tells ServedMessage-t.the-type ServedMessage-l.the-laws) r _ is)) refl $
+        assigns ! (of-opd ! (load ! (from ! (fld ! refl (stop !))) (look-in ! 17 (sub ! 0 refl (whole !))))) (from ! (hop ! (look ! 35 refl) (stop !))) (store-raw ! 3 refl (LL.lawful Record-t.the-type Record-l.the-laws 𝓤 H A W .typed (r .held) _ (of-held r _ is) .0)) $
+        assigns ! (of-opd ! (load ! (from ! (fld ! refl (stop !))) (look-in ! 17 (sub ! 1 refl (whole !))))) (from ! (stop !)) (init ! 37 refl (LL.lawful MessageReply-t.the-type MessageReply-l.the-laws 𝓤 H A W .typed (r .reply) _ (of-reply r _ is) .0)) $
         -- the borrows are closed
         owned ! Record-t.the-row (Is Record-t.the-row) (LL.makes Record-t.the-type Record-l.the-plain 𝓤 H A) (r .held) _ (of-held r _ is) $ move ! (4 ∷ 0 ∷ 5 ∷ 6 ∷ 7 ∷ []) $
         closes ! tt Record-t.the-row (r .held) (LL.val Record-t.the-type Record-l.the-laws (r .held) ∷ []) b₀ o₀ $
-        -- [obs 0; borrow 0; κ₀'s token; lent; last 7; last 6; _14; _13; _12; _11; _10; _9; _8; _7; _6; _5; _4; _3; _2; _1; _0]
-        returns ! (look ! 34 refl) $ forget ! 6 refl $ forget ! 8 refl $ forget ! 10 refl $ forget ! 12 refl $ forget ! 14 refl $ forget ! 16 refl $ forget ! 18 refl $ forget ! 20 refl $ forget ! 22 refl $ forget ! 24 refl $
-        forget ! 26 refl $ forget ! 28 refl $ forget ! 30 refl $ forget ! 32 refl $ forget ! 34 refl $ move ! (34 ∷ 35 ∷ []) $ free1 ! $ move ! (32 ∷ 33 ∷ []) $ free1 ! $ move ! (30 ∷ 31 ∷ []) $ free1 ! $
-        move ! (28 ∷ 29 ∷ []) $ free1 ! $ move ! (26 ∷ 27 ∷ []) $ free1 ! $ move ! (24 ∷ 25 ∷ []) $ free1 ! $ move ! (22 ∷ 23 ∷ []) $ free1 ! $ move ! (20 ∷ 21 ∷ []) $ free1 ! $ move ! (18 ∷ 19 ∷ []) $ free1 ! $
-        move ! (16 ∷ 17 ∷ []) $ free1 ! $ move ! (14 ∷ 15 ∷ []) $ free1 ! $ move ! (12 ∷ 13 ∷ []) $ free1 ! $ move ! (10 ∷ 11 ∷ []) $ free1 ! $ move ! (8 ∷ 9 ∷ []) $ free1 ! $ move ! (6 ∷ 7 ∷ []) $ free1 ! $ free0 ! $
-        keep ! (0 ∷ 1 ∷ 2 ∷ 3 ∷ 5 ∷ 4 ∷ []) $ by ! (exits r (zs .1 .1 .1 .1 .1 .1 .0) (zs .1 .1 .1 .1 .1 .1 .1 .0) e long₆ long₇ (of-reply r _ is))))))))))))))))))))))))))
+        -- [obs 0; borrow 0; κ₀'s token; lent; last 8; last 6; _15; _14; _13; _12; _11; _10; _9; _8; _7; _6; _5; _4; _3; _2; _1; _0]
+        returns ! (look ! 36 refl) $ forget ! 6 refl $ forget ! 8 refl $ forget ! 10 refl $ forget ! 12 refl $ forget ! 14 refl $ forget ! 16 refl $ forget ! 18 refl $ forget ! 20 refl $ forget ! 22 refl $ forget ! 24 refl $
+        forget ! 26 refl $ forget ! 28 refl $ forget ! 30 refl $ forget ! 32 refl $ forget ! 34 refl $ forget ! 36 refl $ move ! (36 ∷ 37 ∷ []) $ free1 ! $ move ! (34 ∷ 35 ∷ []) $ free1 ! $ move ! (32 ∷ 33 ∷ []) $ free1 ! $
+        move ! (30 ∷ 31 ∷ []) $ free1 ! $ move ! (28 ∷ 29 ∷ []) $ free1 ! $ move ! (26 ∷ 27 ∷ []) $ free1 ! $ move ! (24 ∷ 25 ∷ []) $ free1 ! $ move ! (22 ∷ 23 ∷ []) $ free1 ! $ move ! (20 ∷ 21 ∷ []) $ free1 ! $
+        move ! (18 ∷ 19 ∷ []) $ free1 ! $ move ! (16 ∷ 17 ∷ []) $ free1 ! $ move ! (14 ∷ 15 ∷ []) $ free1 ! $ move ! (12 ∷ 13 ∷ []) $ free1 ! $ move ! (10 ∷ 11 ∷ []) $ free1 ! $ move ! (8 ∷ 9 ∷ []) $ free1 ! $
+        move ! (6 ∷ 7 ∷ []) $ free1 ! $ free0 ! $ keep ! (0 ∷ 1 ∷ 2 ∷ 3 ∷ 5 ∷ 4 ∷ []) $ by ! (exits r (zs .1 .1 .1 .1 .1 .1 .0) (zs .1 .1 .1 .1 .1 .1 .1 .1 .0) e long₆ long₈ (of-reply r _ is)))))))))))))))))))))))))))
 
 module _ {M : Type 1} (𝓤 : URA M) (H : Heap 𝓤) (A : Atoms 𝓤) (W : Given 𝓤 H A) (mem : Memory → SProp 𝓤) (run : Routine → Fun 𝓤) where
   hiomap-message-walks : (C : Calls 𝓤 H) (Λ : Loops 𝓤 H) → FmC 𝓤 H (W .laws) C → Triple 𝓤 (C #callee) (Callee 𝓤 H A mem run) → Walks 𝓤 H A entry.ended stayed (WpFn 𝓤 H C Λ code.function) (entry.clauses 𝓤 H A mem run)
   hiomap-message-walks C Λ fm known = walked 𝓤 H A entry.ended stayed (entry.clauses 𝓤 H A mem run) (WpFn 𝓤 H C Λ code.function)
-      (λ κs. (ptr-vals, (uint-vals w8, (uint-vals w8, (slice-vals, (uint-vals w16, (uint-vals w16, (slice-vals, (slice-vals, tt)))))))))
-      (λ κs. (mut-tells (named 0) (κs .0) Record-t.the-row, (uint-tells w8, (uint-tells w8, (shr-slice-tells (named 1) (κs .1 .0) u8, (uint-tells w16, (uint-tells w16, (mut-slice-tells (named 2) (κs .1 .1 .0) u8, (mut-slice-tells (named 3) (κs .1 .1 .1 .0) u8, tt)))))))))
-      (λ κs qs bounds a _ are. via 𝓤 _ (fst∗ 𝓤 _ (emp 𝓤)) (walk 𝓤 H A W mem run (κs .0) (κs .1 .0) (κs .1 .1 .0) (κs .1 .1 .1 .0) (qs .0) (qs .1 .0) (qs .1 .1 .0) (qs .1 .1 .1 .0) (a .0 .ptr .0) (a .0 .ptr .1) (a .0 .name) (a .0 .now) (a .1 .0) (a .1 .1 .0) (a .1 .1 .1 .0) (a .1 .1 .1 .1 .0) (a .1 .1 .1 .1 .1 .0) (a .1 .1 .1 .1 .1 .1 .0) (a .1 .1 .1 .1 .1 .1 .1 .0) C Λ fm known (are .1 .0) (are .1 .1 .0) (are .1 .1 .1 .1 .0) (are .1 .1 .1 .1 .1 .0) (are .1 .1 .1 .0 .0 .1) (are .1 .1 .1 .1 .1 .1 .0 .0 .1) (are .1 .1 .1 .1 .1 .1 .1 .0 .0 .1)))
+      (λ κs. (ptr-vals, (uint-vals w8, (uint-vals w8, (slice-vals, (uint-vals w16, (uint-vals w16, (slice-vals, (slice-vals, (slice-vals, tt))))))))))
+      (λ κs. (mut-tells (named 0) (κs .0) Record-t.the-row, (uint-tells w8, (uint-tells w8, (shr-slice-tells (named 1) (κs .1 .0) u8, (uint-tells w16, (uint-tells w16, (mut-slice-tells (named 2) (κs .1 .1 .0) u8, (shr-slice-tells (named 3) (κs .1 .1 .1 .0) u8, (mut-slice-tells (named 4) (κs .1 .1 .1 .1 .0) u8, tt))))))))))
+      (λ κs qs bounds a _ are. via 𝓤 _ (fst∗ 𝓤 _ (emp 𝓤)) (walk 𝓤 H A W mem run (κs .0) (κs .1 .0) (κs .1 .1 .0) (κs .1 .1 .1 .0) (κs .1 .1 .1 .1 .0) (qs .0) (qs .1 .0) (qs .1 .1 .0) (qs .1 .1 .1 .0) (qs .1 .1 .1 .1 .0) (a .0 .ptr .0) (a .0 .ptr .1) (a .0 .name) (a .0 .now) (a .1 .0) (a .1 .1 .0) (a .1 .1 .1 .0) (a .1 .1 .1 .1 .0) (a .1 .1 .1 .1 .1 .0) (a .1 .1 .1 .1 .1 .1 .0) (a .1 .1 .1 .1 .1 .1 .1 .0) (a .1 .1 .1 .1 .1 .1 .1 .1 .0) C Λ fm known (are .1 .0) (are .1 .1 .0) (are .1 .1 .1 .1 .0) (are .1 .1 .1 .1 .1 .0) (are .1 .1 .1 .0 .0 .1) (are .1 .1 .1 .1 .1 .1 .0 .0 .1) (are .1 .1 .1 .1 .1 .1 .1 .0 .0 .1) (are .1 .1 .1 .1 .1 .1 .1 .1 .0 .0 .1)))
 
-  goes : AllGo 𝓤 H A W 4 (entry.signature .params) (entry.ended .kept) stayed
-  goes = (goes-ref 𝓤 H A W 4 0 tt (plain (λ _. Record-t.the-row)), (goes-dropped 𝓤 H A W 4 (plain (λ _. u8)) yes (λ κs x f. refl), (goes-dropped 𝓤 H A W 4 (plain (λ _. u8)) yes (λ κs x f. refl), (goes-dropped 𝓤 H A W 4 (shrSliceOf (1 ∷ []) tt (plain (λ _. u8))) yes (λ κs x f. refl), (goes-dropped 𝓤 H A W 4 (plain (λ _. u16)) yes (λ κs x f. refl), (goes-dropped 𝓤 H A W 4 (plain (λ _. u16)) yes (λ κs x f. refl), (goes-gave-slice 𝓤 H A W 4 2 tt (plain (λ _. u8)), (goes-gave-slice 𝓤 H A W 4 3 tt (plain (λ _. u8)), tt))))))))
+  goes : AllGo 𝓤 H A W 5 (entry.signature .params) (entry.ended .kept) stayed
+  goes = (goes-ref 𝓤 H A W 5 0 tt (plain (λ _. Record-t.the-row)), (goes-dropped 𝓤 H A W 5 (plain (λ _. u8)) yes (λ κs x f. refl), (goes-dropped 𝓤 H A W 5 (plain (λ _. u8)) yes (λ κs x f. refl), (goes-dropped 𝓤 H A W 5 (shrSliceOf (1 ∷ []) tt (plain (λ _. u8))) yes (λ κs x f. refl), (goes-dropped 𝓤 H A W 5 (plain (λ _. u16)) yes (λ κs x f. refl), (goes-dropped 𝓤 H A W 5 (plain (λ _. u16)) yes (λ κs x f. refl), (goes-gave-slice 𝓤 H A W 5 2 tt (plain (λ _. u8)), (goes-dropped 𝓤 H A W 5 (shrSliceOf (3 ∷ []) tt (plain (λ _. u8))) yes (λ κs x f. refl), (goes-gave-slice 𝓤 H A W 5 4 tt (plain (λ _. u8)), tt)))))))))
 
 hiomap-message-meets : {M : Type 1} (𝓤 : URA M) (H : Heap 𝓤) (A : Atoms 𝓤) → Given 𝓤 H A → (mem : Memory → SProp 𝓤) (run : Routine → Fun 𝓤) (𝓣 : Tables 𝓤 H) → Triple 𝓤 (𝓣 .C #callee) (Callee 𝓤 H A mem run)
     → Meets 𝓤 H A entry.signature (WpFn 𝓤 H (𝓣 .C) (𝓣 .Λ) code.function) (entry.spec 𝓤 H A mem run)

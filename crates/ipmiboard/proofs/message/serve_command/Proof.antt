@@ -26,9 +26,9 @@ same-length-2 c = search needs
 returns : tie.Need-returns
 returns c =
     let call = c .before .before .before .before .before .before .before .before .serve in
-    let message = c .before .before .before .before .before .before .before .before .before .before .before .before .before .before .args .message .now in
+    let message = c .before .before .before .before .before .before .before .before .before .before .before .before .before .before .before .args .message .now in
     let flash = call .last .1 .1 .1 .1 .0 in
-    let memory = call .last .1 .1 .1 .1 .1 .0 in
+    let memory = call .last .1 .1 .1 .1 .1 .1 .0 in
     ap (λ (r : ServedMessage). tellsMessage r flash memory) (c .with-response .ensures)
     ∙ ap (λ (p : Response). tellsMessage (record { held = call .result .held; reply = replyOf p (call .result .actions) }) flash memory) (c .before .pack .ensures)
     ∙ ap (λ (l : Left). mediatedRecord message l) (call .ensures)

@@ -33,20 +33,20 @@ same-length-2 c = search needs
 returns : tie.Need-returns
 returns c =
     let opens = c .before .before .before .before .before .before .before .before .before .before .open-message in
-    let a = c .before .before .before .before .before .before .before .before .before .before .before .before .before .before .args in
+    let a = c .before .before .before .before .before .before .before .before .before .before .before .before .before .before .before .args in
     c .before .before .before .before .serve-command .ensures
-    ∙ messaged-command (board (a .lpc) (a .timeout)) (record { netfn = a .netfn; command = a .command }) (a .message .now) (a .held) (a .flash .now) (a .memory .now)
+    ∙ messaged-command (board (a .lpc) (a .timeout)) (record { netfn = a .netfn; command = a .command }) (a .message .now) (a .held) (a .flash .now) (a .worn .now) (a .memory .now)
     (opens .result) (opens .ensures) (c .before .before .before .before .before .before .before .enum-told .given .1)
 
 returns-2 : tie.Need-returns-2
 returns-2 c =
     let opens = c .before .before .before .before .open-message in
-    let a = c .before .before .before .before .before .before .before .before .args in
+    let a = c .before .before .before .before .before .before .before .before .before .args in
     let flash = a .flash .now in
     let memory = a .memory .now in
     ap (λ (r : ServedMessage). tellsMessage r flash memory) (c .with-response .ensures)
     ∙ ap (λ (p : Response). tellsMessage (record { held = a .held; reply = replyOf p 0 }) flash memory) (c .before .refuse .ensures)
-    ∙ messaged-refused (board (a .lpc) (a .timeout)) (record { netfn = a .netfn; command = a .command }) (a .message .now) (a .held) flash memory
+    ∙ messaged-refused (board (a .lpc) (a .timeout)) (record { netfn = a .netfn; command = a .command }) (a .message .now) (a .held) flash (a .worn .now) memory
     (opens .result) (opens .ensures) (c .before .before .match .keys2)
 
 pub serve-message-spec : {M : Type 1} → statement M
