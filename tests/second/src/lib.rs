@@ -3,7 +3,8 @@
 //! brought to tickets 1, 7, 2 and 4 of 02, beside which only what the source
 //! documents 000, 002 and 004 say of events, ACK, windows, CLOSE and MARK_DIRTY
 //! was read, what ticket 2's issue decides, from a brief that relayed it, and
-//! ticket 4's issue with the brief that named the call's form.
+//! ticket 4's issue with the brief that named the call's form; then to ticket 8,
+//! from 02 and a brief with the readings that were decided for it.
 //! Ticket 5 changes no answer. No other ticket is in.
 //! Module kcs was written from 001, ticket 3 of 02 and that ticket's readings
 //! alone; the host in it, for tests, from the charts as they are generally known.
@@ -43,6 +44,7 @@ const ACK_CLEARS: u8 = EVENT_PROTOCOL_RESET | EVENT_WINDOW_RESET;
 
 pub const SUCCESS: u8 = 1;
 pub const PARAM_ERROR: u8 = 2;
+pub const WRITE_ERROR: u8 = 3;
 pub const SYSTEM_ERROR: u8 = 4;
 pub const TIMEOUT: u8 = 5;
 pub const BUSY: u8 = 6;
@@ -159,12 +161,14 @@ fn events_sound(s: &Session) -> bool {
     (s.events & EVENT_FLASH_LOST != 0) == s.suspended
 }
 
-/// The sizes keep 01's numbers and the session is sound for them, by 01 and
+/// The sizes keep 01's numbers, the map of worn blocks has one byte for each
+/// block of the flash (ticket 8), and the session is sound for them, by 01 and
 /// tickets 1 and 2.
-pub fn sound(s: &Session, flash_len: usize, window_len: usize) -> bool {
+pub fn sound(s: &Session, flash_len: usize, worn_len: usize, window_len: usize) -> bool {
     match (whole_blocks(flash_len, 65_535), whole_blocks(window_len, MARKS)) {
         (Some(flash_blocks), Some(window_blocks)) => {
-            s.version <= 2
+            worn_len == flash_blocks
+                && s.version <= 2
                 && events_sound(s)
                 && window_sound(s, flash_blocks, window_blocks)
                 && marks_sound(s)
@@ -175,13 +179,20 @@ pub fn sound(s: &Session, flash_len: usize, window_len: usize) -> bool {
 }
 
 /// As `sound`, and B + C <= 65,536.
-pub fn sound_with_lpc(s: &Session, flash_len: usize, window_len: usize, b: u16) -> bool {
-    sound(s, flash_len, window_len) && usize::from(b) + window_len / BLOCK <= 65_536
+pub fn sound_with_lpc(
+    s: &Session,
+    flash_len: usize,
+    worn_len: usize,
+    window_len: usize,
+    b: u16,
+) -> bool {
+    sound(s, flash_len, worn_len, window_len) && usize::from(b) + window_len / BLOCK <= 65_536
 }
 
 /// The lamp (ticket 2): how many blocks are marked and how many chip actions a
 /// flush would take, from the kept numbers. None, "unsound", exactly where these
-/// disagree with the marks; nothing else in the record is looked at.
+/// disagree with the marks; nothing else in the record is looked at. It counts as
+/// if no block were worn (ticket 8).
 pub fn pending(s: &Session) -> Option<(u32, u32)> {
     let (dirty, erased) = (u32::from(s.dirty), u32::from(s.erased));
     numbers_sound(s).then_some((dirty + erased, 17 * dirty + erased))
@@ -235,10 +246,19 @@ fn window_marks(s: &Session) -> &[u8] {
     }
 }
 
-/// All actions of the session's flush, in their order.
-fn actions(s: &Session) -> Vec<Action> {
+/// The first window block whose erase fails: marked, and worn by the map of the
+/// flash's blocks (ticket 8). Page actions never fail, and a block without a mark
+/// is not erased. The session is sound for this map.
+fn failing_block(s: &Session, worn: &[u8]) -> Option<usize> {
+    let worn = &worn[usize::from(s.first)..];
+    window_marks(s).iter().zip(worn).position(|(&mark, &worn)| mark != CLEAN && worn != 0)
+}
+
+/// All actions for the window's first blocks, which have these marks, in their
+/// order.
+fn actions(marks: &[u8]) -> Vec<Action> {
     let mut list = Vec::new();
-    for (block, &mark) in window_marks(s).iter().enumerate() {
+    for (block, &mark) in marks.iter().enumerate() {
         if mark == DIRTY || mark == ERASED {
             list.push(Action::Erase(block));
         }
@@ -249,7 +269,7 @@ fn actions(s: &Session) -> Vec<Action> {
     list
 }
 
-/// 17 for each dirty and 1 for each erased block of the window.
+/// 17 for each dirty and 1 for each erased block of the window, worn or not.
 pub fn flush_actions(s: &Session) -> u32 {
     let cost = |mark: &u8| match *mark {
         DIRTY => 17,
@@ -285,30 +305,62 @@ fn program(page: &mut [u8], new: &[u8]) {
     }
 }
 
-/// The flush advanced by one action, `done` of them being done already.
-pub fn step(s: &Session, flash: &mut [u8], window: &[u8], done: u64) -> (u8, bool) {
-    if !sound(s, flash.len(), window.len()) {
+/// How far the session's flush comes with this map (ticket 8).
+struct Course {
+    /// The window blocks that it goes through, from the first on.
+    blocks: usize,
+    /// Their actions. The erase that fails behind them is not one of these.
+    actions: Vec<Action>,
+    /// Whether such an erase ends it.
+    fails: bool,
+}
+
+/// The flush stops at the first failure, so that nothing is done for the failing
+/// block and those behind it, good or not.
+fn course(s: &Session, worn: &[u8]) -> Course {
+    let marks = window_marks(s);
+    let failing = failing_block(s, worn);
+    let blocks = failing.unwrap_or(marks.len());
+    Course { blocks, actions: actions(&marks[..blocks]), fails: failing.is_some() }
+}
+
+/// The flush advanced by one action, `done` of them being done already. From the
+/// erase of a worn block on, past the end too, it answers WRITE_ERROR (ticket 8).
+pub fn step(
+    s: &Session,
+    flash: &mut [u8],
+    worn: &[u8],
+    window: &[u8],
+    done: u64,
+) -> (u8, bool) {
+    if !sound(s, flash.len(), worn.len(), window.len()) {
         return (SYSTEM_ERROR, false);
     }
     if s.suspended {
         return (BUSY, false);
     }
-    let list = actions(s);
-    if done >= list.len() as u64 {
-        return (SUCCESS, false);
+    let Course { actions, fails, .. } = course(s, worn);
+    if done < actions.len() as u64 {
+        perform(actions[done as usize], s.first, flash, window);
+        return (SUCCESS, true);
     }
-    perform(list[done as usize], s.first, flash, window);
-    (SUCCESS, true)
+    (if fails { WRITE_ERROR } else { SUCCESS }, false)
 }
 
-/// The whole flush; all marks are 0 afterwards. Answers the actions done.
-fn flush(s: &mut Session, flash: &mut [u8], window: &[u8]) -> u32 {
-    let list = actions(s);
-    for &action in &list {
+/// The flush as far as it comes, as the answer of a command that does no more.
+/// The finished blocks are clean afterwards; where it fails, the failing block and
+/// those behind it keep their marks (ticket 8).
+fn flush(s: &mut Session, flash: &mut [u8], worn: &[u8], window: &[u8]) -> Answer {
+    let Course { blocks, actions, fails } = course(s, worn);
+    for &action in &actions {
         perform(action, s.first, flash, window);
     }
-    s.clear_marks();
-    list.len() as u32
+    set_marks(s, Range { from: 0, to: blocks }, CLEAN);
+    let actions = actions.len() as u32;
+    if fails {
+        return Answer { actions, ..refused(WRITE_ERROR) };
+    }
+    done(actions)
 }
 
 // --------------------------------------------------------------- mediator
@@ -371,14 +423,15 @@ pub fn command(
     b: u16,
     t: u16,
     flash: &mut [u8],
+    worn: &[u8],
     window: &mut [u8],
 ) -> ([u8; 16], u32) {
-    if !sound_with_lpc(s, flash.len(), window.len(), b) {
+    if !sound_with_lpc(s, flash.len(), worn.len(), window.len(), b) {
         return (registers(&regs, &refused(SYSTEM_ERROR), s.events), 0);
     }
     let answer = match early_refusal(s, regs[0], regs[1]) {
         Some(code) => refused(code),
-        None => serve(s, &regs, b, t, flash, window),
+        None => serve(s, &regs, b, t, flash, worn, window),
     };
     s.previous = Some(regs[1]);
     (registers(&regs, &answer, s.events), answer.actions)
@@ -421,17 +474,18 @@ fn serve(
     b: u16,
     t: u16,
     flash: &mut [u8],
+    worn: &[u8],
     window: &mut [u8],
 ) -> Answer {
     match regs[0] {
         RESET => reset(s),
         GET_INFO => get_info(s, regs, window.len() / BLOCK, t),
         GET_FLASH_INFO => get_flash_info(s.version, flash.len() / BLOCK),
-        CREATE_READ => create(s, Kind::Read, regs, b, flash, window),
-        CLOSE => close(s, regs, flash, window),
-        CREATE_WRITE => create(s, Kind::Write, regs, b, flash, window),
+        CREATE_READ => create(s, Kind::Read, regs, b, flash, worn, window),
+        CLOSE => close(s, regs, flash, worn, window),
+        CREATE_WRITE => create(s, Kind::Write, regs, b, flash, worn, window),
         MARK_DIRTY => mark_dirty(s, regs),
-        FLUSH => flush_command(s, regs, flash, window),
+        FLUSH => flush_command(s, regs, flash, worn, window),
         ACK => ack(s, regs),
         _ => erase_command(s, regs, window),
     }
@@ -472,16 +526,23 @@ fn get_flash_info(version: u8, flash_blocks: usize) -> Answer {
     success(args, 0)
 }
 
+/// Where the old window's flush fails, the create is refused for that, whatever
+/// its own argument, and leaves no window all the same (ticket 8).
 fn create(
     s: &mut Session,
     kind: Kind,
     regs: &[u8; 16],
     b: u16,
     flash: &mut [u8],
+    worn: &[u8],
     window: &mut [u8],
 ) -> Answer {
-    let actions = flush(s, flash, window);
+    let flushed = flush(s, flash, worn, window);
     s.drop_window();
+    if flushed.code != SUCCESS {
+        return flushed;
+    }
+    let actions = flushed.actions;
     let first = usize::from(arg16(regs, 0));
     let flash_blocks = flash.len() / BLOCK;
     if first >= flash_blocks {
@@ -522,14 +583,23 @@ fn create_args(s: &Session, b: u16) -> [u8; 11] {
 
 /// From version 2 on the flags, argument 0, are 0 or 1, neither with an effect;
 /// any other value is refused before the flush, window or not (ticket 7).
-/// Version 1 has no flags and does not look at the byte.
-fn close(s: &mut Session, regs: &[u8; 16], flash: &mut [u8], window: &[u8]) -> Answer {
+/// Version 1 has no flags and does not look at the byte. Where the flush fails,
+/// the window stays (ticket 8).
+fn close(
+    s: &mut Session,
+    regs: &[u8; 16],
+    flash: &mut [u8],
+    worn: &[u8],
+    window: &[u8],
+) -> Answer {
     if s.version >= 2 && arg8(regs, 0) > 1 {
         return refused(PARAM_ERROR);
     }
-    let actions = flush(s, flash, window);
-    s.drop_window();
-    done(actions)
+    let flushed = flush(s, flash, worn, window);
+    if flushed.code == SUCCESS {
+        s.drop_window();
+    }
+    flushed
 }
 
 /// Window blocks from `from` up to but without `to`.
@@ -561,8 +631,9 @@ fn range_in_bytes(s: &Session, regs: &[u8; 16]) -> Option<Range> {
     inside.then(|| Range { from: (a - first) as usize, to: (a + k - first) as usize })
 }
 
-/// Marks these blocks, dirty or erased. The latest mark counts, so the old ones
-/// leave the kept numbers (ticket 2); the session being sound, they are in them.
+/// Marks these blocks, dirty, erased or clean. The latest mark counts, so the old
+/// ones leave the kept numbers (ticket 2); the session being sound, they are in
+/// them.
 fn set_marks(s: &mut Session, range: Range, mark: u8) {
     let marks = &mut s.marks[range.from..range.to];
     s.dirty -= count(marks, DIRTY);
@@ -570,6 +641,7 @@ fn set_marks(s: &mut Session, range: Range, mark: u8) {
     marks.fill(mark);
     let blocks = marks.len() as u8;
     match mark {
+        CLEAN => (),
         DIRTY => s.dirty += blocks,
         _ => s.erased += blocks,
     }
@@ -589,14 +661,21 @@ fn mark_dirty(s: &mut Session, regs: &[u8; 16]) -> Answer {
     }
 }
 
-fn flush_command(s: &mut Session, regs: &[u8; 16], flash: &mut [u8], window: &[u8]) -> Answer {
+/// What version 1 marks here stays marked on a failing block and behind it.
+fn flush_command(
+    s: &mut Session,
+    regs: &[u8; 16],
+    flash: &mut [u8],
+    worn: &[u8],
+    window: &[u8],
+) -> Answer {
     if s.version == 1 && arg32(regs, 2) != 0 {
         match range_in_bytes(s, regs) {
             None => return refused(PARAM_ERROR),
             Some(range) => set_marks(s, range, DIRTY),
         }
     }
-    done(flush(s, flash, window))
+    flush(s, flash, worn, window)
 }
 
 /// Clears those of the bits 0x01 and 0x02 that argument 0 names (ticket 1).
@@ -621,15 +700,17 @@ fn erase_command(s: &mut Session, regs: &[u8; 16], window: &mut [u8]) -> Answer 
 /// Marks a list of pairs, window block and count, dirty at version 2 (ticket 4).
 /// Answers the code, and the place (from 0) of the first bad pair where the last
 /// check refuses. Every pair is checked before the first is marked, so a refusal
-/// changes nothing. No sequence number is used or remembered.
+/// changes nothing. No sequence number is used or remembered. The buffers and the
+/// map of worn blocks count by their lengths alone.
 pub fn mark_list(
     s: &mut Session,
     flash_len: usize,
+    worn_len: usize,
     window_len: usize,
     b: u16,
     list: &[u16],
 ) -> (u8, Option<usize>) {
-    if !sound_with_lpc(s, flash_len, window_len, b) {
+    if !sound_with_lpc(s, flash_len, worn_len, window_len, b) {
         return (SYSTEM_ERROR, None);
     }
     if s.version != 2 {
@@ -661,6 +742,8 @@ pub fn mark_list(
 
 const BENCH_INPUT: usize = 16_384;
 const BENCH_FLASH_BLOCKS: usize = 4;
+/// The chip has no worn blocks (ticket 8).
+const BENCH_WORN: [u8; BENCH_FLASH_BLOCKS] = [0; BENCH_FLASH_BLOCKS];
 const BENCH_WINDOW_BLOCKS: usize = 2;
 const BENCH_B: u16 = 16;
 const BENCH_T: u16 = 8;
@@ -779,8 +862,8 @@ impl Board {
     }
 
     fn command(&mut self, regs: [u8; 16]) {
-        let s = &mut self.session;
-        let (after, _) = command(s, regs, BENCH_B, BENCH_T, &mut self.flash, &mut self.window);
+        let (s, flash, window) = (&mut self.session, &mut self.flash, &mut self.window);
+        let (after, _) = command(s, regs, BENCH_B, BENCH_T, flash, &BENCH_WORN, window);
         let hex: Vec<String> = after.iter().map(|byte| format!("{byte:02X}")).collect();
         self.line(&hex.join(" "));
     }
@@ -860,6 +943,7 @@ flash 0 0 0 300
     struct Rig {
         s: Session,
         flash: Vec<u8>,
+        worn: Vec<u8>,
         window: Vec<u8>,
         b: u16,
         t: u16,
@@ -877,6 +961,7 @@ flash 0 0 0 300
             Rig {
                 s: Session { version, ..Session::fresh() },
                 flash: pattern(flash_blocks * BLOCK, 1),
+                worn: good_map(flash_blocks * BLOCK),
                 window: pattern(window_blocks * BLOCK, 99),
                 b: 16,
                 t: 8,
@@ -897,8 +982,9 @@ flash 0 0 0 300
 
         /// Sends registers as they are.
         fn raw(&mut self, regs: [u8; 16]) -> [u8; 16] {
+            let (flash, window) = (&mut self.flash, &mut self.window);
             let (after, actions) =
-                command(&mut self.s, regs, self.b, self.t, &mut self.flash, &mut self.window);
+                command(&mut self.s, regs, self.b, self.t, flash, &self.worn, window);
             self.actions = actions;
             after
         }
@@ -916,12 +1002,27 @@ flash 0 0 0 300
         }
 
         fn step(&mut self, done: u64) -> (u8, bool) {
-            step(&self.s, &mut self.flash, &self.window, done)
+            step(&self.s, &mut self.flash, &self.worn, &self.window, done)
         }
 
         fn list(&mut self, list: &[u16]) -> (u8, Option<usize>) {
-            mark_list(&mut self.s, self.flash.len(), self.window.len(), self.b, list)
+            let [flash_len, worn_len, window_len] = self.lengths();
+            mark_list(&mut self.s, flash_len, worn_len, window_len, self.b, list)
         }
+
+        fn lengths(&self) -> [usize; 3] {
+            [self.flash.len(), self.worn.len(), self.window.len()]
+        }
+
+        fn sound(&self) -> bool {
+            let [flash_len, worn_len, window_len] = self.lengths();
+            sound_with_lpc(&self.s, flash_len, worn_len, window_len, self.b)
+        }
+    }
+
+    /// The map of a flash of so many bytes without worn blocks.
+    fn good_map(flash_len: usize) -> Vec<u8> {
+        vec![0; flash_len / BLOCK]
     }
 
     fn regs(code: u8, sequence: u8, args: &[u8]) -> [u8; 16] {
@@ -1165,6 +1266,7 @@ flash 0 0 0 300
     fn largest_flash_at_version_1() {
         let mut rig = Rig::new(1);
         rig.flash = vec![0; 65_535 * BLOCK];
+        rig.worn = good_map(rig.flash.len());
         let after = rig.send(GET_FLASH_INFO, &[]);
         assert_eq!(&after[2..13], &hex("00 F0 FF 0F 00 10 00 00 00 00 00")[..]);
         assert_eq!(after[13], SUCCESS);
@@ -1381,9 +1483,10 @@ flash 0 0 0 300
         rig.s.version = 3;
         assert!(suspend(&mut rig.s));
         assert_eq!(rig.step(0), (SYSTEM_ERROR, false));
-        assert_eq!(step(&start.s, &mut [], &[], 0), (SYSTEM_ERROR, false));
+        assert_eq!(step(&start.s, &mut [], &[], &[], 0), (SYSTEM_ERROR, false));
         let mut flash = start.flash.clone();
-        assert_eq!(step(&start.s, &mut flash, &start.window[1..], 0), (SYSTEM_ERROR, false));
+        let shorter = &start.window[1..];
+        assert_eq!(step(&start.s, &mut flash, &start.worn, shorter, 0), (SYSTEM_ERROR, false));
         assert!(flash == start.flash);
     }
 
@@ -1432,7 +1535,7 @@ flash 0 0 0 300
     fn question_4_version_0_with_a_window() {
         let mut rig = Rig::open(0, Kind::Write, 0, 2);
         put_mark(&mut rig.s, 0, DIRTY);
-        assert!(sound_with_lpc(&rig.s, rig.flash.len(), rig.window.len(), rig.b));
+        assert!(rig.sound());
         refuses(&mut rig, FLUSH, &[], PARAM_ERROR);
         refuses(&mut rig, CLOSE, &[], PARAM_ERROR);
         assert_eq!(rig.step(0), (SUCCESS, true));
@@ -1750,7 +1853,9 @@ flash 0 0 0 300
     #[test]
     fn lent_sizes() {
         let s = Session::fresh();
-        let good = |flash_len, window_len, b| sound_with_lpc(&s, flash_len, window_len, b);
+        let good = |flash_len, window_len, b| {
+            sound_with_lpc(&s, flash_len, flash_len / BLOCK, window_len, b)
+        };
         assert!(good(BLOCK, BLOCK, 0));
         assert!(good(65_535 * BLOCK, 64 * BLOCK, 0));
         assert!(good(BLOCK, BLOCK, 65_535));
@@ -1764,7 +1869,7 @@ flash 0 0 0 300
         assert!(!good(BLOCK, 64 * BLOCK + 1, 0));
         assert!(!good(65_536 * BLOCK, BLOCK, 0));
         assert!(!good(BLOCK, 65 * BLOCK, 0));
-        assert!(sound(&s, BLOCK, 64 * BLOCK));
+        assert!(sound(&s, BLOCK, 1, 64 * BLOCK));
     }
 
     #[test]
@@ -1774,6 +1879,7 @@ flash 0 0 0 300
         {
             let mut rig = Rig::new(2);
             rig.flash.truncate(flash_len);
+            rig.worn = good_map(flash_len);
             rig.window.truncate(window_len);
             rig.b = b;
             let before = rig.clone();
@@ -1786,7 +1892,7 @@ flash 0 0 0 300
     #[test]
     fn unsound_sessions() {
         let base = Rig::open(2, Kind::Write, 2, 2).s;
-        let is_sound = |s: &Session| sound(s, 4 * BLOCK, 2 * BLOCK);
+        let is_sound = |s: &Session| sound(s, 4 * BLOCK, 4, 2 * BLOCK);
         assert!(is_sound(&base));
         let with = |change: &dyn Fn(&mut Session)| {
             let mut s = base.clone();
@@ -1912,8 +2018,8 @@ flash 0 0 0 300
                             ..Session::fresh()
                         };
                         let good = lost == suspended;
-                        assert_eq!(sound(&s, 4 * BLOCK, 2 * BLOCK), good);
-                        assert_eq!(sound_with_lpc(&s, 4 * BLOCK, 2 * BLOCK, 16), good);
+                        assert_eq!(sound(&s, 4 * BLOCK, 4, 2 * BLOCK), good);
+                        assert_eq!(sound_with_lpc(&s, 4 * BLOCK, 4, 2 * BLOCK, 16), good);
                     }
                 }
             }
@@ -2228,8 +2334,8 @@ flash 0 0 0 300
                 (s.dirty, s.erased) = (dirty, erased);
                 let right = (dirty, erased) == (2, 1);
                 assert_eq!(pending(&s), right.then_some((3, 35)));
-                assert_eq!(sound(&s, 6 * BLOCK, 4 * BLOCK), right);
-                assert_eq!(sound_with_lpc(&s, 6 * BLOCK, 4 * BLOCK, 16), right);
+                assert_eq!(sound(&s, 6 * BLOCK, 6, 4 * BLOCK), right);
+                assert_eq!(sound_with_lpc(&s, 6 * BLOCK, 6, 4 * BLOCK, 16), right);
             }
         }
     }
@@ -2251,7 +2357,7 @@ flash 0 0 0 300
         for (change, lamp) in changes {
             let mut s = lamp_rig(2).s;
             change(&mut s);
-            assert!(!sound(&s, 6 * BLOCK, 4 * BLOCK));
+            assert!(!sound(&s, 6 * BLOCK, 6, 4 * BLOCK));
             assert_eq!(pending(&s), Some(lamp));
             s.erased -= 1;
             assert_eq!(pending(&s), None);
@@ -2606,8 +2712,9 @@ flash 0 0 0 300
         let good = |flash_len, window_len, b| {
             let start = Session { previous: Some(9), ..Rig::open(2, Kind::Write, 0, 1).s };
             let mut s = start.clone();
-            let answer = mark_list(&mut s, flash_len, window_len, b, &[0, 1]);
-            let good = sound_with_lpc(&start, flash_len, window_len, b);
+            let worn_len = flash_len / BLOCK;
+            let answer = mark_list(&mut s, flash_len, worn_len, window_len, b, &[0, 1]);
+            let good = sound_with_lpc(&start, flash_len, worn_len, window_len, b);
             assert_eq!(answer, (if good { SUCCESS } else { SYSTEM_ERROR }, None));
             assert_eq!(s != start, good);
             good
@@ -2845,6 +2952,556 @@ flash 0 0 0 300
         assert_eq!((rig.s.dirty, rig.s.erased), (0, 64));
     }
 
+    // --------------------------------------------------------- 02, ticket 8
+
+    /// The first block of the window that is marked and worn, and how many actions
+    /// come before its erase.
+    fn stop(rig: &Rig) -> Option<(usize, usize)> {
+        let mut before = 0;
+        for n in 0..usize::from(rig.s.size) {
+            let total = [0, 17, 1][usize::from(rig.s.marks[n])];
+            if total > 0 && rig.worn[usize::from(rig.s.first) + n] > 0 {
+                return Some((n, before));
+            }
+            before += total;
+        }
+        None
+    }
+
+    /// What ticket 8 makes of a flush, by arithmetic; the previous number stays.
+    struct Flushed {
+        code: u8,
+        actions: usize,
+        flash: Vec<u8>,
+        s: Session,
+    }
+
+    fn flushed(rig: &Rig) -> Flushed {
+        let mut s = rig.s.clone();
+        let (code, actions) = match stop(rig) {
+            Some((block, before)) => {
+                s.marks[..block].fill(0);
+                (3, before)
+            }
+            None => {
+                s.marks = [0; 64];
+                (1, flush_actions(&rig.s) as usize)
+            }
+        };
+        recount(&mut s);
+        Flushed { code, actions, flash: flash_after(rig, actions), s }
+    }
+
+    /// Without a window.
+    fn dropped(s: &Session) -> Session {
+        let Session { version, previous, events, suspended, .. } = *s;
+        Session { version, previous, events, suspended, ..Session::fresh() }
+    }
+
+    /// Sends, expects this of the flush, this session but for the previous number,
+    /// zero arguments and window memory as it was.
+    fn flushes_as(start: &Rig, code: u8, args: &[u8], flushed: &Flushed, s: &Session) {
+        let mut rig = start.clone();
+        let mut expected = regs(code, start.next, &[]);
+        (expected[13], expected[15]) = (flushed.code, start.s.events);
+        assert_eq!(rig.send(code, args), expected);
+        assert_eq!(rig.s, Session { previous: Some(start.next), ..s.clone() });
+        assert_eq!(rig.actions as usize, flushed.actions);
+        assert!(rig.flash == flushed.flash && rig.window == start.window);
+        assert!(rig.sound());
+        lamp_is_right(&rig.s);
+    }
+
+    /// The maps of `cut_rig`'s chip with any of the window's blocks worn; the two
+    /// blocks outside the window have this value.
+    fn window_maps(outside: u8) -> Vec<Vec<u8>> {
+        let worn = |set: u8, n: usize| (set >> n & 1) * [1, 2, 0x80, 0xFF][n];
+        let inside = |set: u8| [0, 1, 2, 3].map(|n| worn(set, n));
+        (0..16).map(|set| [&[outside], &inside(set)[..], &[outside]].concat()).collect()
+    }
+
+    /// Every row of marks in a window of 4 blocks at 1 under every such map.
+    fn each_worn(version: u8, outside: u8, check: &dyn Fn(&Rig)) {
+        for marks in all_marks() {
+            let mut rig = cut_rig(marks);
+            rig.s.version = version;
+            for map in window_maps(outside) {
+                rig.worn = map;
+                check(&rig);
+            }
+        }
+    }
+
+    /// A marked window of which every block is worn, and the chip's others too.
+    fn all_worn(version: u8) -> Rig {
+        Rig { worn: vec![1; 6], ..lamp_rig(version) }
+    }
+
+    /// Blocks 1 to 4 are the window's: dirty, erased, dirty, erased.
+    #[test]
+    fn worn_flush_by_hand() {
+        let cases = [
+            (1, 0, [1, 2, 1, 2], (4, 36)),
+            (2, 17, [0, 2, 1, 2], (3, 19)),
+            (3, 18, [0, 0, 1, 2], (2, 18)),
+            (4, 35, [0, 0, 0, 2], (1, 1)),
+        ];
+        for (worn, actions, left, lamp) in cases {
+            let mut rig = cut_rig([1, 2, 1, 2]);
+            let old = rig.flash.clone();
+            rig.worn[worn] = 1;
+            assert_eq!(pending(&rig.s), Some((4, 36)));
+            let mut expected = regs(FLUSH, rig.next, &[]);
+            (expected[13], expected[15]) = (3, 0x81);
+            assert_eq!(rig.send(FLUSH, &[]), expected);
+            assert_eq!((rig.actions, marks(&rig, 4)), (actions, left.to_vec()));
+            assert_eq!(pending(&rig.s), Some(lamp));
+            assert_eq!((rig.s.kind, rig.s.first, rig.s.size), (Kind::Write, 1, 4));
+            let news = [&rig.window[..BLOCK], &[0xFF; BLOCK], block(&rig.window, 2)];
+            for (n, new) in (1..4).zip(news) {
+                assert!(block(&rig.flash, n) == if n < worn { new } else { block(&old, n) });
+            }
+            for n in [0, 4, 5] {
+                assert!(block(&rig.flash, n) == block(&old, n));
+            }
+        }
+    }
+
+    #[test]
+    fn worn_flush_at_every_place() {
+        for (version, outside) in [(1, 0), (1, 7), (2, 0), (2, 7)] {
+            each_worn(version, outside, &|start| {
+                let flushed = flushed(start);
+                flushes_as(start, FLUSH, &al(9, 0), &flushed, &flushed.s);
+            });
+        }
+    }
+
+    #[test]
+    fn worn_close_at_every_place() {
+        for (version, outside) in [(1, 7), (2, 0), (2, 7)] {
+            each_worn(version, outside, &|start| {
+                let flushed = flushed(start);
+                let s = if flushed.code == 3 { flushed.s.clone() } else { dropped(&start.s) };
+                for flags in [0, 1] {
+                    flushes_as(start, CLOSE, &[flags], &flushed, &s);
+                }
+            });
+        }
+    }
+
+    /// Where the flush fails, 3 for every o; otherwise as a create that finds the
+    /// flash flushed and no window.
+    #[test]
+    fn worn_creates_at_every_place() {
+        for (version, code) in (2..6).map(|n| (n / 2, [CREATE_READ, CREATE_WRITE][n % 2])) {
+            each_worn(version as u8, 7, &|start| {
+                let flushed = flushed(start);
+                for o in [1, 5, 6, 65_535] {
+                    if flushed.code == 3 {
+                        flushes_as(start, code, &wk(o, 2), &flushed, &dropped(&start.s));
+                        continue;
+                    }
+                    let mut rig = start.clone();
+                    let mut later = Rig { flash: flushed.flash.clone(), ..start.clone() };
+                    later.s = dropped(&start.s);
+                    let answer = rig.send(code, &wk(o, 2));
+                    assert_eq!(answer, later.send(code, &wk(o, 2)));
+                    assert_eq!(answer[13], if o < 6 { 1 } else { 2 });
+                    assert_eq!(rig.actions as usize, flushed.actions);
+                    later.actions = rig.actions;
+                    assert!(rig == later);
+                }
+            });
+        }
+    }
+
+    /// What FLUSH adds at version 1 is flushed or stays with the other marks.
+    #[test]
+    fn worn_flush_adds_its_marks_first() {
+        for (w, k) in [(0, 1), (1, 1), (3, 1), (0, 2), (1, 3), (0, 4)] {
+            each_worn(1, 0, &|start| {
+                let mut marked = start.clone();
+                marked.s.marks[w..w + k].fill(DIRTY);
+                recount(&mut marked.s);
+                let flushed = flushed(&marked);
+                let args = al(1 + w as u16, (k * BLOCK - 4_095) as u32);
+                flushes_as(start, FLUSH, &args, &flushed, &flushed.s);
+            });
+        }
+        let mut rig = cut_rig([0; 4]);
+        rig.s.version = 1;
+        rig.worn[3] = 1;
+        assert_eq!(rig.code(FLUSH, &al(2, 12_288)), WRITE_ERROR);
+        assert_eq!((rig.actions, marks(&rig, 4)), (17, vec![0, 0, 1, 1]));
+    }
+
+    /// Each of 64 blocks, dirty or erased, and a window at the chip's end.
+    #[test]
+    fn worn_at_each_of_64_blocks() {
+        for (code, mark, cost) in [(MARK_DIRTY, DIRTY, 17), (ERASE, ERASED, 1)] {
+            let mut start = Rig::sized(2, 65, 64);
+            (start.s.kind, start.s.first, start.s.size) = (Kind::Write, 1, 64);
+            start.window = pattern(64 * BLOCK, 5);
+            assert_eq!(start.code(code, &wk(0, 64)), SUCCESS);
+            for place in 0..64 {
+                let mut rig = start.clone();
+                rig.worn[0] = 1;
+                rig.worn[1 + place] = 1;
+                assert_eq!(rig.code(FLUSH, &[]), WRITE_ERROR);
+                assert_eq!(rig.actions as usize, cost * place);
+                assert!(rig.s.marks[..place].iter().all(|&one| one == CLEAN));
+                assert!(rig.s.marks[place..].iter().all(|&one| one == mark));
+                lamp_is_right(&rig.s);
+                let (done, end) = (place * BLOCK, (1 + place) * BLOCK);
+                assert!(rig.flash[..BLOCK] == start.flash[..BLOCK]);
+                assert!(rig.flash[BLOCK..end] == start.window[..done]);
+                assert!(rig.flash[end..] == start.flash[end..]);
+            }
+        }
+    }
+
+    #[test]
+    fn any_value_but_0_is_worn() {
+        for value in 0..=255 {
+            let mut rig = cut_rig([0, 2, 1, 0]);
+            rig.worn[3] = value;
+            let code = if value == 0 { 1 } else { 3 };
+            assert_eq!(rig.step(1), (code, value == 0));
+            assert_eq!(rig.code(FLUSH, &[]), code);
+            assert_eq!(rig.actions, if value == 0 { 18 } else { 1 });
+        }
+    }
+
+    /// Commands with arguments that they take, and some that they refuse.
+    fn any_commands() -> Vec<(u8, Vec<u8>)> {
+        let arguments = [al(0, 0), al(1, 1), al(2, 4_097), al(1, 3), vec![2], vec![0xFF; 11]];
+        let with = |code: u8| arguments.clone().map(|args| (code, args));
+        (0..=11).flat_map(with).collect()
+    }
+
+    /// Sends, expects the answer and the effect that it has with a good map.
+    fn as_with_a_good_map(start: &Rig, code: u8, args: &[u8]) {
+        let mut good = Rig { worn: vec![0; start.worn.len()], ..start.clone() };
+        let mut rig = start.clone();
+        assert_eq!(rig.send(code, args), good.send(code, args));
+        good.worn = rig.worn.clone();
+        assert!(rig == good);
+    }
+
+    /// Without a window, in a read window and in a write window without marks
+    /// nothing is erased, so that the map does not matter to any command.
+    #[test]
+    fn worn_blocks_without_marks_have_no_effect() {
+        for version in 0..=2 {
+            for (kind, size) in [(Kind::Closed, 0), (Kind::Read, 2), (Kind::Write, 2)] {
+                let mut start = Rig::open(version, kind, 0, size);
+                start.worn = vec![1; 4];
+                for (code, args) in any_commands() {
+                    if (version, code) == (1, FLUSH) && kind == Kind::Write {
+                        continue; // it can mark
+                    }
+                    as_with_a_good_map(&start, code, &args);
+                }
+                for done in [0, 1, 17, u64::MAX] {
+                    assert_eq!(start.clone().step(done), (SUCCESS, false));
+                }
+            }
+        }
+    }
+
+    /// All but the marked blocks are worn, inside the window and outside it.
+    #[test]
+    fn worn_blocks_beside_the_marked_ones_have_no_effect() {
+        for row in all_marks() {
+            let mut start = cut_rig(row);
+            start.worn = vec![255; 6];
+            for (n, _) in row.iter().enumerate().filter(|(_, &mark)| mark > 0) {
+                start.worn[1 + n] = 0;
+            }
+            for version in 1..=2 {
+                start.s.version = version;
+                for o in [2, 6] {
+                    as_with_a_good_map(&start, CREATE_READ, &wk(o, 0));
+                    as_with_a_good_map(&start, CREATE_WRITE, &wk(o, 0));
+                }
+                as_with_a_good_map(&start, FLUSH, &al(9, 0));
+                as_with_a_good_map(&start, CLOSE, &[1]);
+            }
+            let total = u64::from(flush_actions(&start.s));
+            let mut rig = start.clone();
+            for done in 0..total {
+                assert_eq!(rig.step(done), (SUCCESS, true));
+            }
+            assert_eq!(rig.step(total), (SUCCESS, false));
+            assert!(rig.flash == flash_after(&start, total as usize));
+        }
+    }
+
+    /// Marks are taken on worn blocks, and only a flush meets them.
+    #[test]
+    fn commands_that_do_not_flush_have_no_map() {
+        for version in 0..=2 {
+            for (code, args) in any_commands() {
+                if !matches!(code, CREATE_READ | CREATE_WRITE | CLOSE | FLUSH) {
+                    as_with_a_good_map(&all_worn(version), code, &args);
+                }
+            }
+        }
+        list_marks(&mut all_worn(2), &[1, 2], &[1, 1, 1, 1]);
+        list_refuses(&mut all_worn(2), &[1, 4], PARAM_ERROR, Some(0));
+        let mut rig = all_worn(2);
+        assert_eq!(rig.code(RESET, &[]), SUCCESS);
+        assert_eq!(rig.s.kind, Kind::Closed);
+        let mut rig = all_worn(2);
+        assert!(suspend(&mut rig.s) && resume_changed(&mut rig.s));
+        assert_eq!(rig.code(CREATE_WRITE, &wk(1, 4)), SUCCESS);
+        assert!(rig.window == rig.flash[BLOCK..5 * BLOCK]);
+    }
+
+    /// FLUSH's and CLOSE_WINDOW's own arguments come before the flush.
+    #[test]
+    fn order_arguments_before_write_error() {
+        let mut rig = all_worn(1);
+        for (a, l) in [(0, 1), (5, 1), (4, 4_097), (1, 16_385), (1, u32::MAX), (65_535, 1)] {
+            refuses(&mut rig, FLUSH, &al(a, l), PARAM_ERROR);
+        }
+        for flags in [0, 1, 2, 255] {
+            assert_eq!(rig.code(CLOSE, &[flags]), WRITE_ERROR);
+        }
+        let mut rig = all_worn(2);
+        for flags in 2..=255 {
+            refuses(&mut rig, CLOSE, &[flags], PARAM_ERROR);
+        }
+        assert_eq!(rig.code(FLUSH, &[0xFF; 11]), WRITE_ERROR);
+    }
+
+    #[test]
+    fn order_other_refusals_before_write_error() {
+        let flushing = [(FLUSH, 0), (CLOSE, 0), (CREATE_READ, 0), (CREATE_WRITE, 6)];
+        for (version, repeated, busy) in [(2, 8, 6), (1, 2, 5)] {
+            for (code, argument) in flushing {
+                let mut rig = all_worn(version);
+                rig.s.previous = Some(rig.next);
+                refuses(&mut rig, code, &[argument], repeated);
+                assert!(suspend(&mut rig.s));
+                refuses(&mut rig, code, &[argument], busy);
+                assert!(resume(&mut rig.s));
+                rig.s.version = 0;
+                refuses(&mut rig, code, &[argument], PARAM_ERROR);
+                rig.s.version = version;
+                assert_eq!(rig.code(code, &[argument]), WRITE_ERROR);
+            }
+            let window = if version == 2 { 7 } else { 2 };
+            let read = Rig::open(version, Kind::Read, 0, 2);
+            refuses(&mut Rig { worn: vec![1; 4], ..read }, FLUSH, &[], window);
+        }
+    }
+
+    /// Its number is the previous one, so that it cannot be sent again.
+    #[test]
+    fn write_error_makes_its_number_the_previous_one() {
+        for (version, repeated) in [(2, 8), (1, 2)] {
+            for code in [FLUSH, CLOSE, CREATE_READ, CREATE_WRITE] {
+                let mut rig = all_worn(version);
+                assert_eq!(rig.raw(regs(code, 200, &[]))[13], WRITE_ERROR);
+                assert_eq!(rig.s.previous, Some(200));
+                assert_eq!(rig.raw(regs(code, 200, &[]))[13], repeated);
+            }
+        }
+    }
+
+    /// The marks went with the window: nothing is left to fail.
+    #[test]
+    fn worn_create_leaves_no_window() {
+        for kind in [CREATE_READ, CREATE_WRITE] {
+            for o in [0, 6] {
+                let mut rig = all_worn(2);
+                let window = rig.window.clone();
+                assert_eq!(rig.code(kind, &wk(o, 0)), WRITE_ERROR);
+                assert_eq!((rig.s.kind, rig.s.first, rig.s.size), (Kind::Closed, 0, 0));
+                assert_eq!((rig.s.marks, pending(&rig.s)), ([0; 64], Some((0, 0))));
+                assert!(rig.window == window);
+                assert_eq!(rig.step(0), (SUCCESS, false));
+                refuses(&mut rig, FLUSH, &[], WINDOW_ERROR);
+                assert_eq!(rig.code(CLOSE, &[]), SUCCESS);
+                assert_eq!(rig.code(kind, &wk(o, 0)), if o == 0 { 1 } else { 2 });
+            }
+        }
+    }
+
+    /// The map's length is asked for first, for every command, step and list, with
+    /// every kind of window and without one.
+    #[test]
+    fn map_of_another_length_is_system_error() {
+        let maps = [(0, 0), (1, 0), (2, 0), (3, 0), (3, 1), (5, 0), (5, 1), (4 * BLOCK, 0)];
+        for version in 0..=2 {
+            for mut rig in to_be_closed(version) {
+                for (length, value) in maps {
+                    rig.worn = vec![value; length];
+                    rig.s.previous = Some(4);
+                    refused_for_its_map(&rig);
+                    assert!(suspend(&mut rig.s));
+                    refused_for_its_map(&rig);
+                    assert!(resume(&mut rig.s));
+                }
+            }
+        }
+    }
+
+    fn refused_for_its_map(start: &Rig) {
+        let mut rig = start.clone();
+        assert!(!rig.sound());
+        for code in (0..=12).chain([255]) {
+            for sequence in [4, 5] {
+                let mut sent = [0xAB; 16];
+                (sent[0], sent[1]) = (code, sequence);
+                let mut expected = regs(code, sequence, &[]);
+                (expected[13], expected[14], expected[15]) = (4, 0xAB, start.s.events);
+                assert_eq!(rig.raw(sent), expected);
+            }
+        }
+        for done in [0, 1, 16, 17, 18, 19, u64::MAX] {
+            assert_eq!(rig.step(done), (SYSTEM_ERROR, false));
+        }
+        for list in [&[][..], &[0], &[0, 1], &[9, 9]] {
+            assert_eq!(rig.list(list), (SYSTEM_ERROR, None));
+        }
+        assert!(rig == *start, "SYSTEM_ERROR changed something");
+    }
+
+    /// By the lengths alone, from the smallest chip to the largest.
+    #[test]
+    fn map_lengths() {
+        for blocks in [1, 2, 6, 64, 256, 4_096, 65_535] {
+            for (kind, size) in [(Kind::Closed, 0), (Kind::Read, 1), (Kind::Write, 1)] {
+                let s = Session { version: 2, kind, size, ..Session::fresh() };
+                let is_sound = |flash_len, worn_len| {
+                    let lpc = sound_with_lpc(&s, flash_len, worn_len, BLOCK, 9);
+                    assert_eq!(sound(&s, flash_len, worn_len, BLOCK), lpc);
+                    let (code, _) = mark_list(&mut s.clone(), flash_len, worn_len, BLOCK, 9, &[]);
+                    assert_eq!(code != SYSTEM_ERROR, lpc);
+                    lpc
+                };
+                for length in [0, 1, blocks - 1, blocks, blocks + 1, 65_536, usize::MAX] {
+                    assert_eq!(is_sound(blocks * BLOCK, length), length == blocks);
+                }
+                assert!(!is_sound(blocks * BLOCK + 1, blocks));
+                assert!(!is_sound(blocks * BLOCK + 1, blocks + 1));
+            }
+        }
+    }
+
+    /// From each cut on the way: yes before the failing erase, 3 from it on, past
+    /// the end too; 6 comes before it, and 4 before that.
+    #[test]
+    fn worn_steps_at_every_count() {
+        for row in [[1, 0, 2, 1], [2, 1, 0, 2], [1, 1, 1, 1], [2, 2, 2, 2], [0, 1, 2, 0], [0; 4]] {
+            for (n, map) in window_maps(7).into_iter().enumerate() {
+                let mut start = Rig { worn: map, ..cut_rig(row) };
+                start.s.version = n as u8 % 3;
+                let total = flush_actions(&start.s) as usize;
+                let (last, end) = match stop(&start) {
+                    Some((_, before)) => (before, WRITE_ERROR),
+                    None => (total, SUCCESS),
+                };
+                let mut rig = start.clone();
+                for done in 0..total + 3 {
+                    let expected = if done < last { (SUCCESS, true) } else { (end, false) };
+                    refused_steps(&rig, done as u64);
+                    assert_eq!(rig.step(done as u64), expected);
+                    assert!(rig.flash == flash_after(&start, last.min(done + 1)));
+                }
+                refused_steps(&rig, u64::MAX);
+                assert_eq!(rig.step(u64::MAX), (end, false));
+                rig.flash = start.flash.clone();
+                assert_eq!(rig.step(last as u64), (end, false));
+                assert!(rig == start, "past the end, or a change of more than the flash");
+            }
+        }
+    }
+
+    /// 6 while suspended and 4 for an unsound record, whatever the map.
+    fn refused_steps(start: &Rig, done: u64) {
+        let mut rig = start.clone();
+        assert!(suspend(&mut rig.s));
+        assert_eq!(rig.step(done), (BUSY, false));
+        rig.s.dirty += 1;
+        assert_eq!(rig.step(done), (SYSTEM_ERROR, false));
+        assert!(resume(&mut rig.s));
+        assert_eq!(rig.step(done), (SYSTEM_ERROR, false));
+        assert!(rig.flash == start.flash);
+    }
+
+    #[test]
+    fn worn_steps_make_what_a_failed_flush_makes() {
+        each_worn(2, 0, &|start| {
+            let mut stepped = start.clone();
+            let mut count = 0;
+            while count < 100 && stepped.step(count).1 {
+                count += 1;
+            }
+            let (code, _) = stepped.step(count);
+            let mut flushed = start.clone();
+            assert_eq!(flushed.code(FLUSH, &[]), code);
+            assert_eq!(u64::from(flushed.actions), count);
+            assert!(flushed.flash == stepped.flash && stepped.s == start.s);
+        });
+    }
+
+    /// The same map stops it again with nothing done; a good one lets it finish,
+    /// and the two counts are those of one flush.
+    #[test]
+    fn worn_flush_and_then_a_good_map() {
+        each_worn(2, 7, &|start| {
+            let total = flush_actions(&start.s);
+            let mut rig = start.clone();
+            let code = rig.code(FLUSH, &[]);
+            let first = rig.actions;
+            if code == WRITE_ERROR {
+                refuses(&mut rig, FLUSH, &[], WRITE_ERROR);
+                refuses(&mut rig, CLOSE, &[], WRITE_ERROR);
+            }
+            rig.worn = good_map(rig.flash.len());
+            let mut closed = rig.clone();
+            assert_eq!(rig.code(FLUSH, &[]), SUCCESS);
+            assert_eq!(first + rig.actions, total);
+            assert!(rig.flash == flash_after(start, total as usize));
+            assert_eq!((rig.s.marks, rig.s.dirty, rig.s.erased), ([0; 64], 0, 0));
+            assert_eq!((rig.s.kind, rig.s.first, rig.s.size), (Kind::Write, 1, 4));
+            assert_eq!(closed.code(CLOSE, &[]), SUCCESS);
+            assert_eq!(closed.actions, rig.actions);
+            assert!(closed.flash == rig.flash && closed.s.kind == Kind::Closed);
+        });
+    }
+
+    /// One block after the other becomes good, and the flush comes further.
+    #[test]
+    fn worn_blocks_made_good_one_by_one() {
+        let start = cut_rig([1, 2, 0, 1]);
+        let mut rig = Rig { worn: vec![1; 6], ..start.clone() };
+        let cases = [(0, 0, [1, 2, 0, 1]), (1, 17, [0, 2, 0, 1]), (2, 1, [0, 0, 0, 1])];
+        for (good, actions, left) in cases {
+            rig.worn[good] = 0;
+            assert_eq!(rig.code(FLUSH, &[]), WRITE_ERROR);
+            assert_eq!((rig.actions, marks(&rig, 4)), (actions, left.to_vec()));
+        }
+        rig.worn[4] = 0;
+        assert_eq!(rig.code(CLOSE, &[]), SUCCESS);
+        assert_eq!(rig.actions, 17);
+        assert!(rig.flash == flash_after(&start, 35));
+    }
+
+    #[test]
+    fn the_benchs_chip_has_no_worn_blocks() {
+        let text = bench_hex(
+            "00 03 02 01 02 00 06 06 02 00 00 02 00 01 00 80 40 00 00 06 07 03 00 00 02 00 \
+             00 06 06 04 02 00 02 00 01 00 80 40 00 00 06 07 05 00 00 02 00 00 02 05 06",
+        );
+        let closed = "05 06 00 00 00 00 00 00 00 00 00 00 00 01 00 81\n";
+        assert!(text.ends_with(&(closed.to_owned() + "flash 4096 4096 4096 4096\n")));
+    }
+
     // ---------------------------------------------------------------- bench
 
     #[test]
@@ -2980,7 +3637,7 @@ flash 0 0 0 300
                     4 => drop(resume_changed(&mut rig.s)),
                     _ => codes[usize::from(walk_one(&mut rig, &mut random))] += 1,
                 }
-                assert!(sound_with_lpc(&rig.s, rig.flash.len(), rig.window.len(), rig.b));
+                assert!(rig.sound());
                 lamp_is_right(&rig.s);
                 let at = random.below(rig.window.len() as u64) as usize;
                 rig.window[at] = random.below(256) as u8;
@@ -3013,7 +3670,7 @@ flash 0 0 0 300
                 let lost = if told.suspended { 0x40 } else { 0 };
                 assert_eq!(rig.s.suspended, told.suspended);
                 assert_eq!(rig.s.events, 0x80 | lost | told.events);
-                assert!(sound_with_lpc(&rig.s, rig.flash.len(), rig.window.len(), rig.b));
+                assert!(rig.sound());
             }
         }
         assert!(seen.iter().flatten().all(|&times| times > 20), "{seen:?}");
@@ -3239,7 +3896,7 @@ flash 0 0 0 300
                     }
                     _ => drop(walk_one(&mut rig, &mut random)),
                 }
-                assert!(sound_with_lpc(&rig.s, rig.flash.len(), rig.window.len(), rig.b));
+                assert!(rig.sound());
                 lamp_is_right(&rig.s);
             }
         }
@@ -3279,5 +3936,145 @@ flash 0 0 0 300
             }
         }
         answer
+    }
+
+    /// Demand 3 with one map throughout its first list: the count stays before the
+    /// failing erase, and the second run, which meets no worn block, ends as the
+    /// flush never stopped with every block good.
+    #[test]
+    fn random_lists_of_ticket_8() {
+        let mut random = Random(8);
+        let mut seen = [0u32; 9];
+        for _ in 0..150 {
+            let row = all_marks()[random.below(81) as usize];
+            let map = window_maps(7)[random.below(16) as usize].clone();
+            let start = Rig { worn: map, ..cut_rig(row) };
+            let total = flush_actions(&start.s) as usize;
+            let (last, end) = stop(&start).map_or((total, 1), |(_, before)| (before, 3));
+            let mut rig = start.clone();
+            let mut j = 0;
+            for _ in 0..random.below(120) {
+                match random.below(12) {
+                    0 => drop(suspend(&mut rig.s)),
+                    1..=2 => drop(resume(&mut rig.s)),
+                    _ => {
+                        let expected = match j < last {
+                            _ if rig.s.suspended => (6, false),
+                            true => (1, true),
+                            false => (end, false),
+                        };
+                        assert_eq!(rig.step(j as u64), expected);
+                        j += usize::from(expected.1);
+                        seen[usize::from(expected.0)] += 1;
+                    }
+                }
+            }
+            assert!(rig.flash == flash_after(&start, j));
+            let mut again = Rig::sized(0, 6, 4);
+            again.flash = rig.flash;
+            assert_eq!(again.code(GET_INFO, &[2]), SUCCESS);
+            assert_eq!(again.code(CREATE_WRITE, &wk(1, 4)), SUCCESS);
+            host_work(&mut again, row);
+            assert_eq!(again.code(FLUSH, &[]), SUCCESS);
+            assert!(again.flash == flash_after(&start, total));
+        }
+        assert!([1, 3, 6].iter().all(|&code| seen[code] > 100), "{seen:?}");
+    }
+
+    /// Any commands and steps, with another map lent to each.
+    #[test]
+    fn random_walks_of_ticket_8() {
+        let mut random = Random(88);
+        let mut failed = [[0u32; 3]; 11];
+        for walk in 0..100 {
+            let mut rig = Rig::sized(walk % 3, 4, 3);
+            for _ in 0..200 {
+                let often = 2 + random.below(5);
+                rig.worn = [0; 4].map(|_: u8| (random.below(often) / 2) as u8).to_vec();
+                match random.below(30) {
+                    0 => drop(suspend(&mut rig.s)),
+                    1..=3 => drop(resume(&mut rig.s)),
+                    4 => drop(resume_changed(&mut rig.s)),
+                    5..=7 => walk_step(&mut rig, &mut random),
+                    _ => {
+                        let version = usize::from(rig.s.version);
+                        if let Some(code) = walk_worn(&mut rig, &mut random) {
+                            failed[usize::from(code)][version] += 1;
+                        }
+                    }
+                }
+                assert!(rig.sound());
+                lamp_is_right(&rig.s);
+                let at = random.below(rig.window.len() as u64) as usize;
+                rig.window[at] = random.below(256) as u8;
+            }
+        }
+        for code in [CREATE_READ, CLOSE, CREATE_WRITE, FLUSH] {
+            let times = failed[usize::from(code)];
+            assert!(times[0] == 0 && times[1] > 5 && times[2] > 5, "{failed:?}");
+        }
+    }
+
+    fn walk_step(rig: &mut Rig, random: &mut Random) {
+        let start = rig.clone();
+        let total = flush_actions(&rig.s) as usize;
+        let (last, end) = stop(rig).map_or((total, 1), |(_, before)| (before, 3));
+        let done = random.below(total as u64 + 2);
+        let expected = match (done as usize) < last {
+            _ if rig.s.suspended => (6, false),
+            true => (1, true),
+            false => (end, false),
+        };
+        assert_eq!(rig.step(done), expected);
+        assert_eq!(rig.flash != start.flash || expected.1, expected.1);
+        assert_eq!(rig.s, start.s);
+    }
+
+    /// Most of these mark, flush or open and close windows, with ranges that often fit.
+    fn fitting_registers(s: &Session, random: &mut Random) -> [u8; 16] {
+        let codes = [CREATE_READ, CLOSE, CREATE_WRITE, MARK_DIRTY, MARK_DIRTY, FLUSH, ERASE, ERASE];
+        let Some(&code) = codes.get(random.below(10) as usize) else {
+            return random_registers(random);
+        };
+        let small = random.below(3) as u16;
+        let args = match (s.version, code) {
+            (1, MARK_DIRTY | FLUSH) => al(s.first + small, random.below(8_193) as u32),
+            _ => wk(small, random.below(3) as u16),
+        };
+        regs(code, random.below(16) as u8, &args)
+    }
+
+    /// As with a good map, unless the command would flush and that map stops it;
+    /// then the command's code.
+    fn walk_worn(rig: &mut Rig, random: &mut Random) -> Option<u8> {
+        let sent = fitting_registers(&rig.s, random);
+        let start = rig.clone();
+        let after = rig.raw(sent);
+        let mut good = Rig { worn: vec![0; 4], ..start.clone() };
+        let good_after = good.raw(sent);
+        let succeeds = good_after[13] == SUCCESS;
+        let mut marked = start.clone();
+        if sent[0] == FLUSH && start.s.version == 1 && succeeds && sent[4..8] != [0; 4] {
+            let other = sent[1].wrapping_add(100);
+            assert_eq!(marked.raw(regs(MARK_DIRTY, other, &sent[2..8]))[13], SUCCESS);
+        }
+        let creates = sent[0] == CREATE_READ || sent[0] == CREATE_WRITE;
+        let closed = creates && good.s.kind != start.s.kind;
+        let flushes = creates || sent[0] == FLUSH || sent[0] == CLOSE;
+        if stop(&marked).is_none() || !(closed || flushes && succeeds) {
+            assert_eq!(after, good_after);
+            good.worn = start.worn;
+            assert!(*rig == good);
+            return None;
+        }
+        let flushed = flushed(&marked);
+        let mut expected = regs(sent[0], sent[1], &[]);
+        (expected[13], expected[14], expected[15]) = (3, sent[14], start.s.events);
+        assert_eq!(after, expected);
+        let s = if creates { dropped(&start.s) } else { flushed.s };
+        assert_eq!(rig.s, Session { previous: Some(sent[1]), ..s });
+        assert_eq!(rig.actions as usize, flushed.actions);
+        assert!(rig.flash == flushed.flash && rig.window == start.window);
+        Some(sent[0])
     }
 }

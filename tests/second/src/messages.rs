@@ -358,13 +358,14 @@ pub fn message(
     t: u16,
     message: &[u8],
     flash: &mut [u8],
+    worn: &[u8],
     window: &mut [u8],
 ) -> (Vec<u8>, u32) {
     let registers = match transport(session.version, pair, message) {
         Ok(registers) => registers,
         Err(response) => return (response, 0),
     };
-    let (after, actions) = command(session, registers, b, t, flash, window);
+    let (after, actions) = command(session, registers, b, t, flash, worn, window);
     (pack(message, session.version, &after), actions)
 }
 
@@ -456,6 +457,7 @@ mod tests {
     struct Rig {
         s: Session,
         flash: Vec<u8>,
+        worn: Vec<u8>,
         window: Vec<u8>,
         b: u16,
         t: u16,
@@ -467,6 +469,7 @@ mod tests {
             Rig {
                 s: Session { version, ..Session::fresh() },
                 flash: pattern(4 * BLOCK, 1),
+                worn: good_map(4 * BLOCK),
                 window: pattern(2 * BLOCK, 99),
                 b: 0x0210,
                 t: 0x1234,
@@ -490,7 +493,7 @@ mod tests {
 
         fn send_to(&mut self, pair: Pair, sent: &[u8]) -> (Vec<u8>, u32) {
             let (flash, window) = (&mut self.flash, &mut self.window);
-            message(&mut self.s, pair, self.b, self.t, sent, flash, window)
+            message(&mut self.s, pair, self.b, self.t, sent, flash, &self.worn, window)
         }
 
         fn send(&mut self, sent: &[u8]) -> (Vec<u8>, u32) {
@@ -498,7 +501,8 @@ mod tests {
         }
 
         fn mailbox(&mut self, sent: [u8; 16]) -> ([u8; 16], u32) {
-            command(&mut self.s, sent, self.b, self.t, &mut self.flash, &mut self.window)
+            let (flash, window) = (&mut self.flash, &mut self.window);
+            command(&mut self.s, sent, self.b, self.t, flash, &self.worn, window)
         }
 
         /// Sends, expects this response and number of actions.
@@ -514,8 +518,14 @@ mod tests {
         }
 
         fn sound(&self) -> bool {
-            sound_with_lpc(&self.s, self.flash.len(), self.window.len(), self.b)
+            let (flash_len, worn_len) = (self.flash.len(), self.worn.len());
+            sound_with_lpc(&self.s, flash_len, worn_len, self.window.len(), self.b)
         }
+    }
+
+    /// The map of a flash of so many bytes without worn blocks.
+    fn good_map(flash_len: usize) -> Vec<u8> {
+        vec![0; flash_len / BLOCK]
     }
 
     /// The same command by message and by mailbox from the same state, which is
@@ -897,6 +907,7 @@ mod tests {
     fn largest_flash() {
         let mut rig = Rig::new(1);
         rig.flash = vec![0; 65_535 * BLOCK];
+        rig.worn = good_map(rig.flash.len());
         rig.gives("E8 5A 03 01", "EC 5A 00 03 01 00 F0 FF 0F 00 10 00 00", 0);
         rig.s.version = 2;
         rig.gives("E8 5A 03 02", "EC 5A 00 03 02 FF FF 01 00", 0);
@@ -932,7 +943,8 @@ mod tests {
             suspended.s.previous = Some(3);
             let mut unsound = Rig::marked(version);
             unsound.s.dirty = 60;
-            let empty = Rig { flash: Vec::new(), window: Vec::new(), ..Rig::new(version) };
+            let mut empty = Rig::new(version);
+            (empty.flash, empty.worn, empty.window) = (Vec::new(), Vec::new(), Vec::new());
             rigs.extend([suspended, unsound, empty]);
         }
         rigs
@@ -1169,7 +1181,7 @@ mod tests {
     /// first, and by the version that the session shows.
     #[test]
     fn unsound_sessions_and_sizes() {
-        let changes: [Change; 17] = [
+        let changes: [Change; 22] = [
             &|rig| rig.s.events |= 0x40,
             &|rig| rig.s.suspended = true,
             &|rig| rig.s.first = 3,
@@ -1182,7 +1194,12 @@ mod tests {
             &|rig| rig.s.dirty = 0,
             &|rig| rig.s.erased = 255,
             &|rig| rig.flash.truncate(4 * BLOCK - 1),
-            &|rig| rig.flash.clear(),
+            &|rig| (rig.flash, rig.worn) = (vec![0; 4 * BLOCK + 1], good_map(4 * BLOCK)),
+            &|rig| (rig.flash, rig.worn) = (Vec::new(), Vec::new()),
+            &|rig| rig.worn.clear(),
+            &|rig| rig.worn = vec![0; 3],
+            &|rig| rig.worn = vec![0; 5],
+            &|rig| rig.worn = vec![1; 5],
             &|rig| rig.window.push(0),
             &|rig| rig.window.clear(),
             &|rig| rig.window = vec![0; 65 * BLOCK],
@@ -1308,6 +1325,11 @@ mod tests {
             Rig::open(version, Kind::Write),
             Rig::marked(version),
         ];
+        for n in [1, 2] {
+            let mut rig = Rig::marked(version);
+            rig.worn[n] = 1;
+            all.push(rig);
+        }
         for mut rig in all.clone() {
             rig.s.previous = Some(7);
             all.push(rig);
@@ -1358,7 +1380,7 @@ mod tests {
             }
         }
         let seen: Vec<usize> = (0..9).filter(|&status| statuses[status] > 0).collect();
-        assert_eq!(seen, [1, 2, 5, 6, 7, 8]);
+        assert_eq!(seen, [1, 2, 3, 5, 6, 7, 8]);
     }
 
     /// A create refused for its argument has closed and flushed the old window, and
@@ -1372,6 +1394,55 @@ mod tests {
         let (after, actions) = by_mailbox.mailbox(regs(CREATE_READ, 1, &[4]));
         assert_eq!((after[13], actions), (PARAM_ERROR, 18));
         assert!(rig == by_mailbox);
+    }
+
+    /// Window blocks 0 and 1, dirty and erased, are the chip's 1 and 2. WRITE_ERROR
+    /// is 83 in three bytes, with the actions before the failed erase (ticket 8).
+    #[test]
+    fn write_error_is_83() {
+        let flushing = [
+            (2, "08 01", Kind::Write),
+            (2, "05 01 00", Kind::Write),
+            (2, "05 01 01", Kind::Write),
+            (2, "04 01 00 00 00 00", Kind::Closed),
+            (2, "06 01 04 00 01 00", Kind::Closed),
+            (1, "08 01 00 00 00 00 00 00", Kind::Write),
+            (1, "08 01 01 00 01 00 00 00", Kind::Write),
+            (1, "05 01", Kind::Write),
+            (1, "04 01 FF FF", Kind::Closed),
+            (1, "06 01 03 00", Kind::Closed),
+        ];
+        for (version, sent, kind) in flushing {
+            for (worn, actions, left) in [(1, 0, [1, 2]), (2, 17, [0, 2])] {
+                let mut rig = Rig::marked(version);
+                rig.worn[worn] = 0x80;
+                let before = rig.clone();
+                rig.gives(&format!("E8 5A {sent}"), "EC 5A 83", actions);
+                assert_eq!((rig.s.kind, rig.s.previous), (kind, Some(1)));
+                let stays = kind == Kind::Write;
+                assert_eq!(rig.s.marks[..2], if stays { left } else { [0, 0] });
+                let flushed = if worn == 2 { &rig.window[..BLOCK] } else { &[] };
+                let old = &before.flash[BLOCK + flushed.len()..];
+                assert!(rig.flash == [&before.flash[..BLOCK], flushed, old].concat());
+                assert!(rig.window == before.window && rig.sound());
+            }
+        }
+    }
+
+    /// The transport and the argument check come first, and a good map ends it.
+    #[test]
+    fn write_error_between_other_answers() {
+        let mut rig = Rig::marked(2);
+        rig.worn[2] = 1;
+        rig.keeps(PAIR, &hex("E8 5A 08 01 00"), &hex("EC 5A C7"));
+        rig.keeps(PAIR, &hex("E8 5B 08 01"), &hex("EC 5B C1"));
+        rig.gives("E8 5A 05 01 02", "EC 5A 82", 0);
+        rig.gives("EB 5A 08 02", "EF 5A 83", 17);
+        rig.gives("E8 5A 08 02", "EC 5A 88", 0);
+        rig.gives("E8 5A 08 03", "EC 5A 83", 0);
+        rig.worn[2] = 0;
+        rig.gives("E8 5A 05 04 00", "EC 5A 00 05 04", 1);
+        assert_eq!(rig.s.kind, Kind::Closed);
     }
 
     #[test]
@@ -1410,6 +1481,7 @@ mod tests {
                 assert!(rig.sound());
                 let at = random.below(rig.window.len() as u64) as usize;
                 rig.window[at] = random.byte();
+                rig.worn[random.below(4) as usize] = random.below(4) as u8 / 2;
             }
         }
         for version in [0, 1, 2] {
@@ -1486,6 +1558,17 @@ mod tests {
             ("E8 5A 0C 08 00", "EC 5A 82"),
         ];
         for (sent, response) in talk {
+            assert_eq!(through_port(&mut port, &mut rig, &hex(sent)), hex(response), "{sent}");
+        }
+        rig.worn[3] = 1;
+        let worn = [
+            ("E8 5A 06 09 02 00 00 00", "EC 5A 00 06 09 10 02 02 00 02 00"),
+            ("E8 5A 07 0A 00 00 02 00", "EC 5A 00 07 0A"),
+            ("E8 5A 08 0B", "EC 5A 83"),
+            ("E8 5A 04 0C 00 00 00 00", "EC 5A 83"),
+            ("E8 5A 08 0D", "EC 5A 87"),
+        ];
+        for (sent, response) in worn {
             assert_eq!(through_port(&mut port, &mut rig, &hex(sent)), hex(response), "{sent}");
         }
         // The longest message of a port: 60 parameter bytes.
