@@ -34,7 +34,7 @@ use Rattle.refusals.specs.Refusals.{isWrite}
 use Rattle.invariants.specs.Demand2.{atClose, reaching, markAt, windowByte, becomes, CarriedOut, Leaves}
 use Rattle.invariants.proofs.Reach.{reached-is, reached-sound}
 
-not-markable : (w : Window) (n : ℕ) → isWrite w ≡ false → markable w n ≡ 0
+pub not-markable : (w : Window) (n : ℕ) → isWrite w ≡ false → markable w n ≡ 0
 not-markable Closed n e = refl
 not-markable Read n e = refl
 not-markable Write n e = absurd (true≢false e)
@@ -104,7 +104,7 @@ module _ (s : Session) (flash worn memory : List ℕ) (e : sound (length flash) 
   pub window-room : toBytes (s .size) ≤ length memory
   window-room = part-within (length flash) (length worn) (length memory) s e .1
 
-  fit : Fitting (roundUp (length flash)) (roundUp (length memory)) s
+  pub fit : Fitting (roundUp (length flash)) (roundUp (length memory)) s
   fit = fitting (roundUp (length flash)) (roundUp (length memory)) s (sizes (length flash) (length worn) (length memory) s e .2)
 
   pub window-marks : marksSound (s .size) (s .marks) ≡ true
@@ -129,7 +129,7 @@ module _ (s : Session) (flash worn memory : List ℕ) (e : sound (length flash) 
       (performed-carries (reaching worn s) flash memory window-fits window-room window-small (reached-sound worn (s .first) (s .size) (s .marks) window-marks))))
 
   -- without a write window nothing is marked
-  nothing : isWrite (s .window) ≡ false → (flushWhole (lent s flash worn memory) .flash ≡ flash) × (flushWhole (lent s flash worn memory) .actions ≡ 0)
+  pub nothing : isWrite (s .window) ≡ false → (flushWhole (lent s flash worn memory) .flash ≡ flash) × (flushWhole (lent s flash worn memory) .actions ≡ 0)
   unfolding flushWhole
   nothing w =
       let empty = done-none w in

@@ -13,3 +13,4 @@ pub mod Refused
 pub mod Runs
 pub mod Succeeding
 pub mod Reach
+pub mod Worn

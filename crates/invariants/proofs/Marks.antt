@@ -141,10 +141,10 @@ flushing-window s registers marks false = record { window = refl; first = refl; 
 unwindowed : (s : Session) → NoWindow (dropWindow s)
 unwindowed s = record { window = refl; first = refl; size = refl }
 
-three-one : _≡_ {A = ℕ} 3 1 → ⊥
+pub three-one : _≡_ {A = ℕ} 3 1 → ⊥
 three-one q = omega arith
 
-one-three : _≡_ {A = ℕ} 1 3 → ⊥
+pub one-three : _≡_ {A = ℕ} 1 3 → ⊥
 one-three q = omega arith
 
 module _ (setup : Setup) (registers : List ℕ) (m : Machine) (a : reasonIn setup registers m ≡ Accepted) where
@@ -176,7 +176,7 @@ module _ (setup : Setup) (registers : List ℕ) (m : Machine) (a : reasonIn setu
       (λ _ q. through (sym (opened-code w o z setup registers (numberedIn registers m)) ∙ q))
 
 -- a create of either kind
-create-either : (P : ℕ → Type 0) (code : ℕ) → isCreate code ≡ true → (code ≡ 4 → P 4) → (code ≡ 6 → P 6) → P code
+pub create-either : (P : ℕ → Type 0) (code : ℕ) → isCreate code ≡ true → (code ≡ 4 → P 4) → (code ≡ 6 → P 6) → P code
 create-either P code c reads writes =
     ⊎-elim
     (λ (t : eqb code 4 ≡ true). let e = eqb-true code 4 t in subst P (sym e) (reads e))

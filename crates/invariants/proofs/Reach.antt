@@ -4,20 +4,25 @@ use mathlib.Core.Bool.{Bool, true, false, cond, not, _&&_, _||_}
 use mathlib.Core.List.{List, [], _∷_, _++_}
 use mathlib.Core.Logic.{⊎-elim}
 use Prim.Native.Nat.{ℕ, zero, suc, _+_, _≤_, _<_}
+use native.Mathlib.Nat.{le-trans}
 use native.Mathlib.Omega.{arith}
 use lib.Dec.{leb, ltb, eqb}
-use lib.ListN.{length, getD, take, drop, replicate}
+use lib.ListN.{length, getD, take, drop, replicate, List·getD-eq-default}
 use borrow.Author.Tests.{leb-true, lt-ltb}
-use Rattle.units.proofs.Cases.{decided, both}
+use Rattle.units.proofs.Cases.{decided, below-or, both}
 use Rattle.buffers.specs.Ranges.{range}
 use Rattle.buffers.proofs.Replace.{range-at}
-use Rattle.session.specs.Marks.{erases}
-use Rattle.soundness.specs.Soundness.{marksSound}
+use Rattle.session.specs.declared.Session.{Session}
+use Rattle.session.specs.Machine.{lent}
+use Rattle.session.specs.Marks.{erases, programs}
+use Rattle.soundness.specs.Soundness.{marksSound, sound}
 use Rattle.flush.specs.Actions.{flushActions}
 use Rattle.flush.specs.Worn.{isWorn, someFail, finishedFrom, finishedBlocks, marksKept}
-use Rattle.flush.proofs.Failing.{less-suc, some-unfinished}
+use Rattle.flush.specs.Window.{windowActions, windowWorn, flushWhole}
+use Rattle.flush.proofs.Failing.{less-suc, some-unfinished, none-worn}
+use Rattle.mailbox.proofs.Lengths.{range-few}
 use Rattle.invariants.specs.Demand2.{failsAt, reached}
-use Rattle.invariants.specs.Worn.{meets, kept}
+use Rattle.invariants.specs.Worn.{meets, kept, MeetsNone}
 use Rattle.invariants.proofs.MarksKept.{take-sound}
 
 -- ---- how many blocks come before the first that fails, and what the claims say, by that number
@@ -128,3 +133,30 @@ module _ (worn : List ℕ) (first size : ℕ) (marks : List ℕ) (e : marksSound
 
   pub reached-sound : marksSound size (reached worn first marks) ≡ true
   reached-sound = ap (marksSound size) reached-is ∙ take-sound (finishedBlocks (range first size worn) marks) size marks e
+
+-- ---- where no marked block is worn no erase fails
+pub zeros-at : (n i : ℕ) → _≡_ {A = ℕ} (getD (replicate n 0) i 0) 0
+zeros-at zero i = refl
+zeros-at (suc n) zero = refl
+zeros-at (suc n) (suc i) = zeros-at n i
+
+pub zeros-meet-none : (n : ℕ) (s : Session) → MeetsNone (replicate n 0) s
+zeros-meet-none n s b m = zeros-at n (s .first + b)
+
+pub none-fails : (s : Session) (worn : List ℕ) → MeetsNone worn s → someFail (windowWorn s worn) (windowActions s) ≡ false
+none-fails s worn good = none-worn (windowWorn s worn) (s .marks) (λ b e. ap (λ (n : ℕ). not (eqb n 0)) (byte b e))
+  where
+    byte : (b : ℕ) → erases (getD (s .marks) b 0) ≡ true → getD (windowWorn s worn) b 0 ≡ 0
+    byte b e =
+        ⊎-elim
+        (λ (h : b < s .size). range-at (s .first) (s .size) worn b h ∙ good b (ap (λ (t : Bool). t || programs (getD (s .marks) b 0)) e))
+        (λ (h : s .size ≤ b). List·getD-eq-default (windowWorn s worn) 0 (le-trans (range-few (s .first) (s .size) worn) h))
+        (below-or b (s .size))
+
+pub none-failed : (s : Session) (flash worn memory : List ℕ) → MeetsNone worn s → flushWhole (lent s flash worn memory) .failed ≡ false
+unfolding flushWhole
+none-failed s flash worn memory good =
+    ⊎-elim
+    (λ (t : sound (length flash) (length worn) (length memory) s ≡ true). rw t (none-fails s worn good))
+    (λ (t : sound (length flash) (length worn) (length memory) s ≡ false). rw t)
+    (decided (sound (length flash) (length worn) (length memory) s))

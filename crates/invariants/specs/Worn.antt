@@ -109,9 +109,9 @@ GoodAsBefore =
 
 -- ---- after a failed flush
 
--- no block of a window that is marked is worn
-abbrev pub Mended : List ℕ → Session → Type 0
-Mended worn s = (block : ℕ) → isMarked (getD (s .marks) block 0) ≡ true → getD worn (s .first + block) 0 ≡ 0
+-- of the blocks that a session's flush takes, those that are marked, none is worn
+abbrev pub MeetsNone : List ℕ → Session → Type 0
+MeetsNone worn s = (block : ℕ) → isMarked (getD (s .marks) block 0) ≡ true → getD worn (s .first + block) 0 ≡ 0
 
 -- a FLUSH or CLOSE_WINDOW failed; then the map is such that no marked block is worn, and a FLUSH that adds no mark is not refused: it succeeds, and the flash is
 -- that which the first would have left with every block good
@@ -119,7 +119,7 @@ abbrev pub FlushMended : Type 0
 FlushMended =
     (setup : Setup) (registers later : List ℕ) (m : Machine) (worn : List ℕ) → response setup registers m ≡ 3
     → (commandOf registers ≡ 8) ⊎ (commandOf registers ≡ 5)
-    → Mended worn (mediate setup registers m .machine .session)
+    → MeetsNone worn (mediate setup registers m .machine .session)
     → commandOf later ≡ 8 → reasonIn setup later (wearing worn (mediate setup registers m .machine)) ≡ Accepted
     → flushing (mediate setup registers m .machine .session) later .marks ≡ mediate setup registers m .machine .session .marks
     → (response setup later (wearing worn (mediate setup registers m .machine)) ≡ 1)

@@ -25,12 +25,14 @@ use Rattle.registers.specs.Registers.{argument, number}
 use Rattle.mailbox.specs.Commands.{numbered, marked}
 use Rattle.refusals.specs.Refusals.{flushMarks}
 use Rattle.mailbox.specs.Runs.{send}
+use Rattle.invariants.proofs.Reach.{zeros-meet-none, none-fails}
 use Rattle.invariants.proofs.Runs.{run-keeps}
 use Rattle.recovery.specs.Cut.{FirstCall, cut, start, Kept, AtCut}
 use Rattle.recovery.specs.Demand.{Demand3}
-use Rattle.recovery.specs.Second.{Way, bySteps, byFlush, Succeeds, flashAfter, begun, agreeing, opening, MeetsNone, SecondRun, StepsSucceed, secondEnd, secondFlash, unstopped, AddsNone, unstoppedFlash}
+use Rattle.invariants.specs.Worn.{MeetsNone}
+use Rattle.recovery.specs.Second.{Way, bySteps, byFlush, Succeeds, flashAfter, begun, agreeing, opening, SecondRun, StepsSucceed, secondEnd, secondFlash, unstopped, AddsNone, unstoppedFlash}
 use Rattle.recovery.proofs.FirstList.{kept-window, kept-first, kept-size, kept-marks, marks-sound, Running, begins, runs, says, session-after, machine-after, block-at, finished-at, old-at, other-at, length-at, resumed-kept, resume-said, steps-flash, steps-said}
-use Rattle.recovery.proofs.SecondList.{zeros-meet-none, none-fails, info-sound, info-leaves, create-opens, Open, calls-open, flush-leaves}
+use Rattle.recovery.proofs.SecondList.{info-sound, info-leaves, create-opens, Open, calls-open, flush-leaves}
 
 -- ---- either way to flush does all actions of the window
 way-flash : (setup : Setup) (way : Way) (m : Machine) → Succeeds setup way m → AddsNone way (m .session)

@@ -31,7 +31,8 @@ use Rattle.invariants.proofs.Runs.{write-within, run-keeps}
 use Rattle.recovery.specs.Cut.{cut}
 use Rattle.recovery.specs.Recipe.{getInfo, reopen, markDirty, markErased, former, restored, restoredFrom, recipe, flushAll, ByRecipe, Recovers}
 use Rattle.mailbox.specs.Mediator.{response}
-use Rattle.recovery.specs.Second.{sent, AllAllowed, Way, bySteps, byFlush, Succeeds, MeetsNone, begun, agreeing, opening, marking}
+use Rattle.invariants.specs.Worn.{MeetsNone}
+use Rattle.recovery.specs.Second.{sent, AllAllowed, Way, bySteps, byFlush, Succeeds, begun, agreeing, opening, marking}
 use Rattle.recovery.proofs.Demand.{demand-3}
 use Rattle.recovery.proofs.FirstList.{marks-sound}
 use Rattle.recovery.proofs.MarksAgain.{mark-most, mark-past, mark-more, mark-none}

@@ -1,30 +1,27 @@
 -- The second run: what each of its calls leaves.
 use mathlib.Core.Path.{_≡_, refl, sym, ap, _∙_, subst}
-use mathlib.Core.Bool.{Bool, true, false, cond, not, _||_, true≢false}
+use mathlib.Core.Bool.{Bool, true, false, cond, true≢false}
 use mathlib.Core.List.{List, [], _∷_}
 use mathlib.Core.Logic.{_⊎_, ⊎-elim}
-use Prim.Native.Nat.{ℕ, zero, suc, _+_, _≤_, _<_, min}
-use native.Mathlib.Nat.{le-trans}
+use Prim.Native.Nat.{ℕ, _≤_, min}
 use native.Mathlib.Omega.{arith}
-use lib.Dec.{eqb}
-use lib.ListN.{length, getD, replicate, List·getD-eq-default}
+use lib.ListN.{length, getD}
 use borrow.Author.Tests.{leb-true}
 use Rattle.units.specs.Units.{toBytes, roundUp}
-use Rattle.units.proofs.Cases.{decided, below-or, both}
-use Rattle.buffers.proofs.Replace.{range-at}
+use Rattle.units.proofs.Cases.{decided, both}
 use Rattle.chip.specs.Actions.{erased}
 use Rattle.session.specs.declared.Counts.{Counts}
 use Rattle.session.specs.declared.Session.{Session}
 use Rattle.session.specs.declared.Window.the-variants.{Write}
 use Rattle.session.specs.Machine.{Setup, Machine, lent}
-use Rattle.session.specs.Marks.{dirty, erasedMark, erases, programs, countsOf}
+use Rattle.session.specs.Marks.{dirty, erasedMark, countsOf}
 use Rattle.session.specs.Record.{clean, fresh, withVersion, withCounted, withMarks}
 use Rattle.soundness.specs.Soundness.{sizesSound, sound, sessionSound, soundAt, soundIn}
 use Rattle.soundness.proofs.Facts.{part-within, counts-right}
 use Rattle.flush.specs.Actions.{Action, flushActions, actionsFrom, blockActions}
 use Rattle.flush.specs.Worn.{untilFailure, someFail}
 use Rattle.flush.specs.Window.{windowActions, performIn, windowWorn, flushWhole}
-use Rattle.flush.proofs.Failing.{until-all, some-none, none-worn}
+use Rattle.flush.proofs.Failing.{until-all, some-none}
 use Rattle.flush.proofs.Whole.{in-none}
 use Rattle.refusals.specs.declared.Reason.{Reason}
 use Rattle.refusals.specs.declared.Reason.the-variants.{Accepted, System, Repeated, Unknown, Suspended, Windowless, Argument}
@@ -38,11 +35,11 @@ use Rattle.mailbox.specs.Mediator.{commandAt, commandIn, reasonIn, answerTo, me
 use Rattle.mailbox.proofs.Ends.{flush-ends, open-ends}
 use Rattle.mailbox.proofs.Mediating.{mediate-as, carried}
 use Rattle.mailbox.specs.Runs.{Call, send, markList, suspend, resume, resumeChanged, advance, write, alter, wear, written, called, calledAll}
-use Rattle.mailbox.proofs.Lengths.{memory-long, map-same, range-few}
+use Rattle.mailbox.proofs.Lengths.{memory-long, map-same}
 use Rattle.invariants.proofs.Kept.{fresh-sound, sounds-unless}
 use Rattle.invariants.proofs.Runs.{write-long}
 use Rattle.invariants.proofs.Succeeding.{accepted}
-use Rattle.recovery.specs.Second.{sent, Allowed, AllAllowed, begun, MeetsNone}
+use Rattle.recovery.specs.Second.{sent, Allowed, AllAllowed, begun}
 
 -- ---- a flush without marks leaves the flash
 clean-none : flushActions clean ≡ []
@@ -69,33 +66,6 @@ unmarked-passes s flash worn memory c =
     ⊎-elim
     (λ (t : sound (length flash) (length worn) (length memory) s ≡ true).
     rw t (ap (λ (marks : List ℕ). someFail (windowWorn s worn) (flushActions marks)) c ∙ ap (someFail (windowWorn s worn)) clean-none ∙ some-none (windowWorn s worn)))
-    (λ (t : sound (length flash) (length worn) (length memory) s ≡ false). rw t)
-    (decided (sound (length flash) (length worn) (length memory) s))
-
--- ---- a map in which no marked block is worn: no erase fails
-zeros-at : (n i : ℕ) → _≡_ {A = ℕ} (getD (replicate n 0) i 0) 0
-zeros-at zero i = refl
-zeros-at (suc n) zero = refl
-zeros-at (suc n) (suc i) = zeros-at n i
-
-pub zeros-meet-none : (n : ℕ) (s : Session) → MeetsNone (replicate n 0) s
-zeros-meet-none n s b m = zeros-at n (s .first + b)
-
-pub none-fails : (s : Session) (worn : List ℕ) → MeetsNone worn s → someFail (windowWorn s worn) (windowActions s) ≡ false
-none-fails s worn good = none-worn (windowWorn s worn) (s .marks) (λ b e. ap (λ (n : ℕ). not (eqb n 0)) (byte b e))
-  where
-    byte : (b : ℕ) → erases (getD (s .marks) b 0) ≡ true → getD (windowWorn s worn) b 0 ≡ 0
-    byte b e =
-        ⊎-elim
-        (λ (h : b < s .size). range-at (s .first) (s .size) worn b h ∙ good b (ap (λ (t : Bool). t || programs (getD (s .marks) b 0)) e))
-        (λ (h : s .size ≤ b). List·getD-eq-default (windowWorn s worn) 0 (le-trans (range-few (s .first) (s .size) worn) h))
-        (below-or b (s .size))
-
-pub none-failed : (s : Session) (flash worn memory : List ℕ) → MeetsNone worn s → flushWhole (lent s flash worn memory) .failed ≡ false
-unfolding flushWhole
-none-failed s flash worn memory good =
-    ⊎-elim
-    (λ (t : sound (length flash) (length worn) (length memory) s ≡ true). rw t (none-fails s worn good))
     (λ (t : sound (length flash) (length worn) (length memory) s ≡ false). rw t)
     (decided (sound (length flash) (length worn) (length memory) s))
 

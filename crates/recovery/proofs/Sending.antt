@@ -29,9 +29,11 @@ use Rattle.mailbox.specs.Table as table
 use Rattle.mailbox.specs.Mediator.{commandAt, reasonOf, mediate, response}
 use Rattle.mailbox.proofs.Ends.{codeOf, flush-ends, open-ends, opened-code}
 use Rattle.mailbox.proofs.Mediating.{carried}
-use Rattle.recovery.specs.Second.{sent, begun, MeetsNone}
+use Rattle.invariants.proofs.Reach.{none-failed}
+use Rattle.invariants.specs.Worn.{MeetsNone}
+use Rattle.recovery.specs.Second.{sent, begun}
 use Rattle.recovery.specs.Recipe.{getInfo}
-use Rattle.recovery.proofs.SecondList.{unmarked-passes, none-failed}
+use Rattle.recovery.proofs.SecondList.{unmarked-passes}
 
 -- a 16-bit number is that of its two bytes
 pub word : (n : ℕ) → n < 65536 → n % 256 + 256 * (n / 256 % 256 + 256 * 0) ≡ n

@@ -17,7 +17,8 @@ use Rattle.registers.specs.Registers.{bytesOf}
 use Rattle.mailbox.specs.Runs.{Call, send, write}
 use Rattle.mailbox.specs.Table as table
 use Rattle.recovery.specs.Cut.{FirstCall, cut}
-use Rattle.recovery.specs.Second.{Way, bySteps, byFlush, MeetsNone, SecondRun}
+use Rattle.invariants.specs.Worn.{MeetsNone}
+use Rattle.recovery.specs.Second.{Way, bySteps, byFlush, SecondRun}
 
 -- the 16 registers of a command: its code, its sequence number, and two 16-bit arguments
 abbrev pub command : ℕ → ℕ → ℕ → ℕ → List ℕ

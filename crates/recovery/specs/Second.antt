@@ -8,7 +8,7 @@ use lib.ListN.{length, getD, replicate}
 use Rattle.units.specs.Units.{toBytes, blockHolding}
 use Rattle.session.specs.declared.Session.{Session}
 use Rattle.session.specs.Machine.{Setup, Machine, lent, holding, wearing}
-use Rattle.session.specs.Marks.{isMarked, programs}
+use Rattle.session.specs.Marks.{programs}
 use Rattle.session.specs.Record.{fresh}
 use Rattle.session.specs.Suspension.{resumed}
 use Rattle.registers.specs.Registers.{commandOf}
@@ -16,6 +16,7 @@ use Rattle.mailbox.specs.Commands.{flushing}
 use Rattle.mailbox.specs.Table.{getInfo, createWriteWindow, markDirty, flush, erase}
 use Rattle.mailbox.specs.Mediator.{mediate, response}
 use Rattle.mailbox.specs.Runs.{Call, send, markList, suspend, resume, resumeChanged, advance, write, alter, wear, called, calledAll}
+use Rattle.invariants.specs.Worn.{MeetsNone}
 use Rattle.recovery.specs.Cut.{stepped, step, afterAll, answers, actionsOf, reachOf, start}
 
 -- what a mailbox command leaves
@@ -76,13 +77,9 @@ opening setup info create flash worn memory = sent setup create (agreeing setup 
 abbrev pub marking : Setup → List ℕ → List ℕ → List Call → List ℕ → List ℕ → List ℕ → Machine
 marking setup info create calls flash worn memory = calledAll setup calls (opening setup info create flash worn memory)
 
--- "its second run must meet no worn block" (02, Ticket 8): of the blocks that it flushes, those that are marked, none is worn
-abbrev pub MeetsNone : List ℕ → Session → Type 0
-MeetsNone worn s = (b : ℕ) → isMarked (getD (s .marks) b 0) ≡ true → getD worn (s .first + b) 0 ≡ 0
-
 -- a second run for the window of the machine at the first list's start, on this flash; "outside the list all succeed"
 pub record SecondRun (setup : Setup) (m : Machine) (flash : List ℕ) : Type 0 where
-  -- any map that meets no worn block; that GET_INFO succeeds tells that its length is S
+  -- any map, but "its second run must meet no worn block" (02, Ticket 8); that GET_INFO succeeds tells that its length is S
   pub worn : List ℕ
   pub good : MeetsNone worn (m .session)
   -- any window memory of the same size
