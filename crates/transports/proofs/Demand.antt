@@ -97,16 +97,16 @@ all-allowed setup size (input ∷ inputs) m p =
 module _ (setup : Setup) (m : Machine) (flash : List ℕ) (run : SecondRun setup m flash) where
   -- the machines of the run with messages
   abbrev m₁ : Machine
-  m₁ = agreeing setup (run .info) flash (run .other)
+  m₁ = agreeing setup (run .info) flash (run .worn) (run .other)
 
   abbrev m₂ : Machine
-  m₂ = opening setup (run .info) (run .create) flash (run .other)
+  m₂ = opening setup (run .info) (run .create) flash (run .worn) (run .other)
 
   abbrev m₃ : Machine
   m₃ = secondEnd setup m flash run
 
   abbrev info : List ℕ
-  info = registersIn (run .info) (begun flash (run .other) .session .version)
+  info = registersIn (run .info) (begun flash (run .worn) (run .other) .session .version)
 
   abbrev create : List ℕ
   create = registersIn (run .create) (m₁ .session .version)
@@ -117,20 +117,20 @@ module _ (setup : Setup) (m : Machine) (flash : List ℕ) (run : SecondRun setup
   abbrev way : second.Way
   way = wayAs (run .way) (m₃ .session .version)
 
-  informed : AsSent setup (run .info) (begun flash (run .other) .session .version) (begun flash (run .other))
-  informed = succeeds-as setup (run .info) (begun flash (run .other)) (run .info-succeeds)
+  informed : AsSent setup (run .info) (begun flash (run .worn) (run .other) .session .version) (begun flash (run .worn) (run .other))
+  informed = succeeds-as setup (run .info) (begun flash (run .worn) (run .other)) (run .info-succeeds)
 
   created : AsSent setup (run .create) (m₁ .session .version) m₁
   created = succeeds-as setup (run .create) m₁ (run .create-succeeds)
 
   -- those of the run by mailbox are the same
-  same₁ : m₁ ≡ second.agreeing setup info flash (run .other)
+  same₁ : m₁ ≡ second.agreeing setup info flash (run .worn) (run .other)
   same₁ = informed .0
 
-  same₂ : m₂ ≡ second.opening setup info create flash (run .other)
+  same₂ : m₂ ≡ second.opening setup info create flash (run .worn) (run .other)
   same₂ = created .0 ∙ ap (second.sent setup create) same₁
 
-  same₃ : m₃ ≡ second.marking setup info create calls flash (run .other)
+  same₃ : m₃ ≡ second.marking setup info create calls flash (run .worn) (run .other)
   same₃ = inputs-are-calls setup (run .inputs) m₂ ∙ ap (calledAll setup calls) same₂
 
   flushes : second.Succeeds setup way m₃ × (flashAfter setup (run .way) m₃ ≡ second.flashAfter setup way m₃)
@@ -139,10 +139,12 @@ module _ (setup : Setup) (m : Machine) (flash : List ℕ) (run : SecondRun setup
   abbrev by-mailbox : second.SecondRun setup m flash
   by-mailbox =
       record {
+        worn = run .worn;
+        good = run .good;
         other = run .other;
         other-size = run .other-size;
         info = info;
-        info-is = code-as (run .info) (begun flash (run .other) .session .version) ∙ run .info-is;
+        info-is = code-as (run .info) (begun flash (run .worn) (run .other) .session .version) ∙ run .info-is;
         info-succeeds = informed .1;
         agreed = subst (λ (k : Machine). k .session .version ≡ 2) same₁ (run .agreed);
         create = create;

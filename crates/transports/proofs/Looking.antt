@@ -1,7 +1,7 @@
 -- The mediator looks at the command, its number and its own parameters alone: what it leaves has nothing of the other arguments and of registers 13 to 15,
 -- but for register 14, which it hands back.
 use mathlib.Core.Path.{_≡_, refl, sym, ap, _∙_}
-use mathlib.Core.Bool.{Bool, cond}
+use mathlib.Core.Bool.{Bool, true, false, cond}
 use mathlib.Core.List.{List, [], _∷_, _++_}
 use mathlib.Core.Option.{Option, none, some}
 use Prim.Native.Nat.{ℕ, min}
@@ -12,7 +12,7 @@ use Rattle.buffers.specs.Ranges.{range, replace}
 use Rattle.session.specs.declared.Window.{Window}
 use Rattle.session.specs.declared.Window.the-variants.{Read, Write}
 use Rattle.session.specs.declared.Session.{Session}
-use Rattle.session.specs.Machine.{Setup, Machine, lent}
+use Rattle.session.specs.Machine.{Setup, Machine, lent, holding}
 use Rattle.session.specs.Record.{withVersion, withWindow}
 use Rattle.soundness.specs.Soundness.{soundIn}
 use Rattle.registers.specs.Registers.{argument, number, bytesOf}
@@ -25,7 +25,7 @@ use Rattle.messages.specs.Parameters.{Parameter, y, q, u, Row, row, table, rowO
 use Rattle.messages.specs.Messages.{argumentsOf}
 use Rattle.messages.proofs.Rows.{_&_, each-row}
 use Rattle.mailbox.specs.Commands.{Outcome, outcome, leaving, answered, numberedIn, infoArguments, informed, flashInformed}
-use Rattle.mailbox.specs.Commands.{hint, sizeFor, createArguments, opened, created}
+use Rattle.mailbox.specs.Commands.{hint, sizeFor, createArguments, closing, opened, opening, created, stopped, closed, flushing, flushedThrough, flushedAll}
 use Rattle.mailbox.specs.Table.{Command, reset, getInfo, getFlashInfo, createReadWindow, closeWindow, createWriteWindow, markDirty, flush, ack, erase, unknown}
 use Rattle.mailbox.specs.Mediator.{commandAt, reasonOf, answerTo, obeyed, mediate}
 use Rattle.mailbox.proofs.Mediating.{each-command}
@@ -41,6 +41,11 @@ pub record Seen : Type 0 where
 abbrev pub seen : Outcome → Seen
 seen o = record { machine = o .machine; front = elements 14 0 (o .registers); actions = o .actions }
 
+-- where an erase fails, and where none does
+either-alike : (t : Bool) (a b c d : Outcome) → seen a ≡ seen c → seen b ≡ seen d → seen (cond t a b) ≡ seen (cond t c d)
+either-alike true a b c d p q = p
+either-alike false a b c d p q = q
+
 module _ (setup : Setup) (command sequence : ℕ) (xs ys : List ℕ) where
   -- two contents of the registers with the same command and number
   abbrev one : List ℕ
@@ -51,8 +56,8 @@ module _ (setup : Setup) (command sequence : ℕ) (xs ys : List ℕ) where
 
   -- answers with the same arguments
   answered-alike : (s : Session) (code : ℕ) (arguments : List ℕ) (actions : ℕ) (flash worn memory : List ℕ)
-      → seen (outcome (answered s one code arguments actions) flash memory) ≡ seen (outcome (answered s other code arguments actions) flash memory)
-  answered-alike s code arguments actions flash memory =
+      → seen (outcome (answered s one code arguments actions) flash worn memory) ≡ seen (outcome (answered s other code arguments actions) flash worn memory)
+  answered-alike s code arguments actions flash worn memory =
       ap (λ (t : List ℕ). record { machine = lent s flash worn memory; front = elements 14 0 t; actions = actions }) (reply-as one code arguments (s .events))
       ∙ ap (λ (t : List ℕ). record { machine = lent s flash worn memory; front = elements 14 0 t; actions = actions })
       (sym (reply-as other code arguments (s .events)))
@@ -76,15 +81,27 @@ module _ (setup : Setup) (command sequence : ℕ) (xs ys : List ℕ) where
   opened-alike : (window : Window) (m : Machine) (o size : ℕ) → seen (opened window o size setup one m) ≡ seen (opened window o size setup other m)
   opened-alike window m o size =
       answered-alike (withWindow window o size (m .session)) 1 (createArguments (m .session .version) (setup .lpc) size o) (flushWhole m .actions)
-      (flushWhole m .flash) (replace 0 (range (toBytes o) (toBytes size) (flushWhole m .flash)) (m .memory))
+      (flushWhole m .flash) (m .worn) (replace 0 (range (toBytes o) (toBytes size) (flushWhole m .flash)) (m .memory))
+
+  opening-alike : (window : Window) (m : Machine) (o size : ℕ) → seen (opening window o size setup one m) ≡ seen (opening window o size setup other m)
+  opening-alike window m o size =
+      either-alike (flushWhole m .failed) (closing 3 one m) (opened window o size setup one m) (closing 3 other m) (opened window o size setup other m)
+      refl (opened-alike window m o size)
 
   created-alike : (window : Window) (m : Machine) → number 2 0 one ≡ number 2 0 other → hint (m .session) one ≡ hint (m .session) other
       → seen (created window setup one m) ≡ seen (created window setup other m)
   created-alike window m e f =
       let size = sizeFor (roundUp (length (m .flash))) (roundUp (length (m .memory))) in
-      opened-alike window m (number 2 0 one) (size (number 2 0 one) (hint (m .session) one))
-      ∙ ap (λ (o : ℕ). seen (opened window o (size o (hint (m .session) one)) setup other m)) e
-      ∙ ap (λ (n : ℕ). seen (opened window (number 2 0 other) (size (number 2 0 other) n) setup other m)) f
+      opening-alike window m (number 2 0 one) (size (number 2 0 one) (hint (m .session) one))
+      ∙ ap (λ (o : ℕ). seen (opening window o (size o (hint (m .session) one)) setup other m)) e
+      ∙ ap (λ (n : ℕ). seen (opening window (number 2 0 other) (size (number 2 0 other) n) setup other m)) f
+
+  -- CLOSE_WINDOW, and FLUSH with the marks that it works from
+  closed-alike : (m : Machine) → seen (closed one m) ≡ seen (closed other m)
+  closed-alike m = either-alike (flushWhole m .failed) (stopped one m) (closing 1 one m) (stopped other m) (closing 1 other m) refl refl
+
+  flushed-alike : (m : Machine) → seen (flushedAll one m) ≡ seen (flushedAll other m)
+  flushed-alike m = either-alike (flushWhole m .failed) (stopped one m) (flushedThrough one m) (stopped other m) (flushedThrough other m) refl refl
 
   -- a command whose rule and whose outcomes are alike
   obeyed-alike : (c : Command) (sound : Bool) (m : Machine)
@@ -112,16 +129,19 @@ module _ (setup : Setup) (command sequence : ℕ) (xs ys : List ℕ) where
 abbrev pub filledWith : ℕ → List ℕ → List ℕ
 filledWith command r = command ∷ elements 15 1 r
 
--- those that the message of a command is unpacked to, by a row
+-- those that the message of a command is unpacked to, by a row: behind the number, and all
+abbrev behind : Option Row → ℕ → List ℕ → List ℕ
+behind o command r = argumentsOf o (givenBy o (filledWith command r)) ++ (0 ∷ 0 ∷ 0 ∷ [])
+
 abbrev pub throughRow : Option Row → ℕ → List ℕ → List ℕ
-throughRow o command r = command ∷ getD r 1 0 ∷ (argumentsOf o (givenBy o (filledWith command r)) ++ (0 ∷ 0 ∷ 0 ∷ []))
+throughRow o command r = command ∷ getD r 1 0 ∷ behind o command r
 
 -- the mediator leaves the same of both
 abbrev pub Alike : ℕ → ℕ → Option Row → Type 0
 Alike command version o =
     (setup : Setup) (r : List ℕ) (s : Session) (flash worn memory : List ℕ)
-    → seen (mediate setup (filledWith command r) (lent (withVersion version s) flash memory))
-    ≡ seen (mediate setup (throughRow o command r) (lent (withVersion version s) flash memory))
+    → seen (mediate setup (filledWith command r) (lent (withVersion version s) flash worn memory))
+    ≡ seen (mediate setup (throughRow o command r) (lent (withVersion version s) flash worn memory))
 
 -- registers with the same 11 arguments: of a command that the version does not know
 module _ (setup : Setup) (r : List ℕ) (m : Machine) where
@@ -136,10 +156,10 @@ module _ (setup : Setup) (r : List ℕ) (m : Machine) where
       (obeyed-alike setup 2 sequence xs ys getInfo _ m refl (informed-alike setup 2 sequence xs ys (numbered 2) refl) (λ code. refl))
       (obeyed-alike setup 3 sequence xs ys getFlashInfo _ m refl (flashInformed-alike setup 3 sequence xs ys (numbered 3)) (λ code. refl))
       (obeyed-alike setup 4 sequence xs ys createReadWindow _ m refl (created-alike setup 4 sequence xs ys Read (numbered 4) refl refl) (λ code. refl))
-      (obeyed-alike setup 5 sequence xs ys closeWindow _ m refl refl (λ code. refl))
+      (obeyed-alike setup 5 sequence xs ys closeWindow _ m refl (closed-alike setup 5 sequence xs ys (numbered 5)) (λ code. refl))
       (obeyed-alike setup 6 sequence xs ys createWriteWindow _ m refl (created-alike setup 6 sequence xs ys Write (numbered 6) refl refl) (λ code. refl))
       (obeyed-alike setup 7 sequence xs ys markDirty _ m refl refl (λ code. refl))
-      (obeyed-alike setup 8 sequence xs ys flush _ m refl refl (λ code. refl))
+      (obeyed-alike setup 8 sequence xs ys flush _ m refl (flushed-alike setup 8 sequence xs ys (flushingIn 8)) (λ code. refl))
       (obeyed-alike setup 9 sequence xs ys ack _ m refl refl (λ code. refl))
       (obeyed-alike setup 10 sequence xs ys erase _ m refl refl (λ code. refl))
       (λ n. obeyed-alike setup n sequence xs ys unknown _ m refl refl (λ code. refl))
@@ -156,9 +176,12 @@ module _ (setup : Setup) (r : List ℕ) (m : Machine) where
       numbered : ℕ → Machine
       numbered command = numberedIn (command ∷ sequence ∷ xs) m
 
+      flushingIn : ℕ → Machine
+      flushingIn command = holding (flushing (numbered command .session) (command ∷ sequence ∷ xs)) m
+
 none-alike : (command version : ℕ) → Alike command version none
 unfolding mediate
-none-alike command version setup r s flash memory = unasked-alike setup r (lent (withVersion version s) flash memory) command
+none-alike command version setup r s flash worn memory = unasked-alike setup r (lent (withVersion version s) flash worn memory) command
 
 -- ---- registers with the parameters of a row, the other arguments zero
 abbrev asks : List Parameter → Option Row
@@ -166,71 +189,103 @@ asks ps = some (row 0 0 ps [])
 
 reset-alike : (version : ℕ) → Alike 1 version (asks [])
 unfolding mediate commandAt
-reset-alike version setup r s flash memory = obeyed-alike setup 1 (getD r 1 0) _ _ reset _ _ refl refl (λ code. refl)
+reset-alike version setup r s flash worn memory = obeyed-alike setup 1 (getD r 1 0) _ _ reset _ _ refl refl (λ code. refl)
 
 info-alike : (version : ℕ) → Alike 2 version (asks (y 0 0 ∷ []))
 unfolding mediate commandAt
-info-alike version setup r s flash memory =
-    obeyed-alike setup 2 (getD r 1 0) _ _ getInfo _ (lent (withVersion version s) flash memory) refl
+info-alike version setup r s flash worn memory =
+    obeyed-alike setup 2 (getD r 1 0) _ _ getInfo _ (lent (withVersion version s) flash worn memory) refl
     (informed-alike setup 2 (getD r 1 0) (elements 14 2 r) (getD r 2 0 ∷ replicate 13 0)
-    (numberedIn (filledWith 2 r) (lent (withVersion version s) flash memory)) refl)
+    (numberedIn (filledWith 2 r) (lent (withVersion version s) flash worn memory)) refl)
     (λ code. refl)
 
 flash1-alike : Alike 3 1 (asks [])
 unfolding mediate commandAt
-flash1-alike setup r s flash memory = obeyed-alike setup 3 (getD r 1 0) _ _ getFlashInfo _ _ refl refl (λ code. refl)
+flash1-alike setup r s flash worn memory = obeyed-alike setup 3 (getD r 1 0) _ _ getFlashInfo _ _ refl refl (λ code. refl)
 
 flash2-alike : Alike 3 2 (asks [])
 unfolding mediate commandAt
-flash2-alike setup r s flash memory = obeyed-alike setup 3 (getD r 1 0) _ _ getFlashInfo _ _ refl refl (λ code. refl)
+flash2-alike setup r s flash worn memory = obeyed-alike setup 3 (getD r 1 0) _ _ getFlashInfo _ _ refl refl (λ code. refl)
 
 read1-alike : Alike 4 1 (asks (q 0 0 ∷ []))
 unfolding mediate commandAt
-read1-alike setup r s flash memory = obeyed-alike setup 4 (getD r 1 0) _ _ createReadWindow _ _ refl refl (λ code. refl)
+read1-alike setup r s flash worn memory =
+    obeyed-alike setup 4 (getD r 1 0) _ _ createReadWindow _ (lent (withVersion 1 s) flash worn memory) refl
+    (created-alike setup 4 (getD r 1 0) (elements 14 2 r) (behind (asks (q 0 0 ∷ [])) 4 r) Read
+    (numberedIn (filledWith 4 r) (lent (withVersion 1 s) flash worn memory)) refl refl)
+    (λ code. refl)
 
 read2-alike : Alike 4 2 (asks (q 0 0 ∷ q 2 2 ∷ []))
 unfolding mediate commandAt
-read2-alike setup r s flash memory = obeyed-alike setup 4 (getD r 1 0) _ _ createReadWindow _ _ refl refl (λ code. refl)
+read2-alike setup r s flash worn memory =
+    obeyed-alike setup 4 (getD r 1 0) _ _ createReadWindow _ (lent (withVersion 2 s) flash worn memory) refl
+    (created-alike setup 4 (getD r 1 0) (elements 14 2 r) (behind (asks (q 0 0 ∷ q 2 2 ∷ [])) 4 r) Read
+    (numberedIn (filledWith 4 r) (lent (withVersion 2 s) flash worn memory)) refl refl)
+    (λ code. refl)
 
 close1-alike : Alike 5 1 (asks [])
 unfolding mediate commandAt
-close1-alike setup r s flash memory = obeyed-alike setup 5 (getD r 1 0) _ _ closeWindow _ _ refl refl (λ code. refl)
+close1-alike setup r s flash worn memory =
+    obeyed-alike setup 5 (getD r 1 0) _ _ closeWindow _ (lent (withVersion 1 s) flash worn memory) refl
+    (closed-alike setup 5 (getD r 1 0) (elements 14 2 r) (behind (asks []) 5 r)
+    (numberedIn (filledWith 5 r) (lent (withVersion 1 s) flash worn memory)))
+    (λ code. refl)
 
 close2-alike : Alike 5 2 (asks (y 0 0 ∷ []))
 unfolding mediate commandAt
-close2-alike setup r s flash memory = obeyed-alike setup 5 (getD r 1 0) _ _ closeWindow _ _ refl refl (λ code. refl)
+close2-alike setup r s flash worn memory =
+    obeyed-alike setup 5 (getD r 1 0) _ _ closeWindow _ (lent (withVersion 2 s) flash worn memory) refl
+    (closed-alike setup 5 (getD r 1 0) (elements 14 2 r) (behind (asks (y 0 0 ∷ [])) 5 r)
+    (numberedIn (filledWith 5 r) (lent (withVersion 2 s) flash worn memory)))
+    (λ code. refl)
 
 write1-alike : Alike 6 1 (asks (q 0 0 ∷ []))
 unfolding mediate commandAt
-write1-alike setup r s flash memory = obeyed-alike setup 6 (getD r 1 0) _ _ createWriteWindow _ _ refl refl (λ code. refl)
+write1-alike setup r s flash worn memory =
+    obeyed-alike setup 6 (getD r 1 0) _ _ createWriteWindow _ (lent (withVersion 1 s) flash worn memory) refl
+    (created-alike setup 6 (getD r 1 0) (elements 14 2 r) (behind (asks (q 0 0 ∷ [])) 6 r) Write
+    (numberedIn (filledWith 6 r) (lent (withVersion 1 s) flash worn memory)) refl refl)
+    (λ code. refl)
 
 write2-alike : Alike 6 2 (asks (q 0 0 ∷ q 2 2 ∷ []))
 unfolding mediate commandAt
-write2-alike setup r s flash memory = obeyed-alike setup 6 (getD r 1 0) _ _ createWriteWindow _ _ refl refl (λ code. refl)
+write2-alike setup r s flash worn memory =
+    obeyed-alike setup 6 (getD r 1 0) _ _ createWriteWindow _ (lent (withVersion 2 s) flash worn memory) refl
+    (created-alike setup 6 (getD r 1 0) (elements 14 2 r) (behind (asks (q 0 0 ∷ q 2 2 ∷ [])) 6 r) Write
+    (numberedIn (filledWith 6 r) (lent (withVersion 2 s) flash worn memory)) refl refl)
+    (λ code. refl)
 
 dirty1-alike : Alike 7 1 (asks (q 0 0 ∷ u 2 2 ∷ []))
 unfolding mediate commandAt
-dirty1-alike setup r s flash memory = obeyed-alike setup 7 (getD r 1 0) _ _ markDirty _ _ refl refl (λ code. refl)
+dirty1-alike setup r s flash worn memory = obeyed-alike setup 7 (getD r 1 0) _ _ markDirty _ _ refl refl (λ code. refl)
 
 dirty2-alike : Alike 7 2 (asks (q 0 0 ∷ q 2 2 ∷ []))
 unfolding mediate commandAt
-dirty2-alike setup r s flash memory = obeyed-alike setup 7 (getD r 1 0) _ _ markDirty _ _ refl refl (λ code. refl)
+dirty2-alike setup r s flash worn memory = obeyed-alike setup 7 (getD r 1 0) _ _ markDirty _ _ refl refl (λ code. refl)
 
 flush1-alike : Alike 8 1 (asks (q 0 0 ∷ u 2 2 ∷ []))
 unfolding mediate commandAt
-flush1-alike setup r s flash memory = obeyed-alike setup 8 (getD r 1 0) _ _ flush _ _ refl refl (λ code. refl)
+flush1-alike setup r s flash worn memory =
+    let m = numberedIn (filledWith 8 r) (lent (withVersion 1 s) flash worn memory) in
+    obeyed-alike setup 8 (getD r 1 0) _ _ flush _ (lent (withVersion 1 s) flash worn memory) refl
+    (flushed-alike setup 8 (getD r 1 0) (elements 14 2 r) (behind (asks (q 0 0 ∷ u 2 2 ∷ [])) 8 r) (holding (flushing (m .session) (filledWith 8 r)) m))
+    (λ code. refl)
 
 flush2-alike : Alike 8 2 (asks [])
 unfolding mediate commandAt
-flush2-alike setup r s flash memory = obeyed-alike setup 8 (getD r 1 0) _ _ flush _ _ refl refl (λ code. refl)
+flush2-alike setup r s flash worn memory =
+    let m = numberedIn (filledWith 8 r) (lent (withVersion 2 s) flash worn memory) in
+    obeyed-alike setup 8 (getD r 1 0) _ _ flush _ (lent (withVersion 2 s) flash worn memory) refl
+    (flushed-alike setup 8 (getD r 1 0) (elements 14 2 r) (behind (asks []) 8 r) (holding (flushing (m .session) (filledWith 8 r)) m))
+    (λ code. refl)
 
 ack-alike : (version : ℕ) → Alike 9 version (asks (y 0 0 ∷ []))
 unfolding mediate commandAt
-ack-alike version setup r s flash memory = obeyed-alike setup 9 (getD r 1 0) _ _ ack _ _ refl refl (λ code. refl)
+ack-alike version setup r s flash worn memory = obeyed-alike setup 9 (getD r 1 0) _ _ ack _ _ refl refl (λ code. refl)
 
 erase-alike : Alike 10 2 (asks (q 0 0 ∷ q 2 2 ∷ []))
 unfolding mediate commandAt
-erase-alike setup r s flash memory = obeyed-alike setup 10 (getD r 1 0) _ _ erase _ _ refl refl (λ code. refl)
+erase-alike setup r s flash worn memory = obeyed-alike setup 10 (getD r 1 0) _ _ erase _ _ refl refl (λ code. refl)
 
 pub each-alike : (command version : ℕ) → Alike command version (rowOf command version)
 unfolding table

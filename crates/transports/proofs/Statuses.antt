@@ -1,4 +1,4 @@
--- The status of a command is the code of its reason, and what the completion code of a message tells of it.
+-- The status of a command is the code of its reason or WRITE_ERROR, and what the completion code of a message tells of it.
 use mathlib.Core.Path.{_≡_, refl, sym, ap, subst, _∙_}
 use mathlib.Core.Bool.{Bool, true, false, cond, false≢true}
 use mathlib.Core.List.{List, _∷_, _++_}
@@ -11,8 +11,9 @@ use Rattle.units.specs.Units.{blockBytes, toBytes, roundUp}
 use Rattle.units.proofs.Cases.{chosen}
 use Rattle.session.specs.declared.Window.{Window}
 use Rattle.session.specs.declared.Window.the-variants.{Read, Write}
-use Rattle.session.specs.Machine.{Setup, Machine}
+use Rattle.session.specs.Machine.{Setup, Machine, holding}
 use Rattle.soundness.specs.Soundness.{soundIn}
+use Rattle.flush.specs.Window.{flushWhole}
 use Rattle.refusals.specs.declared.Reason.{Reason}
 use Rattle.refusals.specs.declared.Reason.the-variants.{Accepted, System, Repeated, Unknown, Suspended, Windowless, Argument}
 use Rattle.refusals.specs.declared.Needs.the-variants.{Access}
@@ -23,9 +24,10 @@ use Rattle.messages.specs.declared.Taken.{Taken}
 use Rattle.messages.specs.declared.Taken.the-variants.{Short, Foreign, Malformed, Command}
 use Rattle.messages.specs.Messages.{registersOf, headed, statusOf, completionOf, valuesOf, responseOf}
 use Rattle.messages.specs.Parameters.{rowOf}
-use Rattle.mailbox.specs.Commands.{Outcome, numberedIn, infoArguments, informed, flashInformed, hint, sizeFor, createArguments, created}
+use Rattle.mailbox.specs.Commands.{Outcome, numberedIn, infoArguments, informed, flashInformed, hint, sizeFor, created, closed, flushing, flushed}
 use Rattle.mailbox.specs.Table as table
 use Rattle.mailbox.specs.Mediator.{commandAt, commandIn, reasonOf, reasonIn, answerTo, mediate, response}
+use Rattle.mailbox.proofs.Ends.{close-ends, flush-ends, open-ends, opened-code}
 use Rattle.mailbox.proofs.Mediating.{mediate-as, each-command}
 use Rattle.ipmi.proofs.Told.{reply-as}
 use Rattle.ipmi.specs.Served.{servedAs}
@@ -53,41 +55,56 @@ module _ (setup : Setup) (registers : List ℕ) (m : Machine) where
       replied registers (cond (ltb (m .session .version) 2) (bytesOf 4 (toBytes S) ++ bytesOf 4 blockBytes) (bytesOf 2 S ++ bytesOf 2 1)) 1
       (m .session .events)
 
-  create-status : (window : Window) → status (created window setup registers (numberedIn registers m)) ≡ 1
-  create-status window =
-      let o = number 2 0 registers in
-      let size = sizeFor (roundUp (length (m .flash))) (roundUp (length (m .memory))) o (hint (m .session) registers) in
-      replied registers (createArguments (m .session .version) (setup .lpc) size o) 1 (m .session .events)
+  -- what holds of WRITE_ERROR, and of the status that is handed, holds of the status where an erase fails and where none does
+  module _ (P : ℕ → Type 0) (failed : P 3) where
+    create-status : (window : Window) → P 1 → P (status (created window setup registers (numberedIn registers m)))
+    create-status window one =
+        let next = numberedIn registers m in
+        let o = number 2 0 registers in
+        let size = sizeFor (roundUp (length (m .flash))) (roundUp (length (m .memory))) o (hint (m .session) registers) in
+        open-ends (λ (k : Outcome). P (status k)) registers next window o size setup
+        (λ _. failed) (λ _. subst P (sym (opened-code window o size setup registers next)) one)
 
-  served-status : (n : ℕ) → reasonOf (commandAt n) (soundIn setup m) registers m ≡ Accepted
-      → status (commandAt n .leaves setup registers (numberedIn registers m)) ≡ 1
-  served-status =
-      each-command
-      (λ (_ : ℕ) (c : table.Command). reasonOf c (soundIn setup m) registers m ≡ Accepted → status (c .leaves setup registers (numberedIn registers m)) ≡ 1)
-      (λ _. refl) (λ _. info-status) (λ _. flash-info-status) (λ _. create-status Read) (λ _. refl) (λ _. create-status Write)
-      (λ _. refl) (λ _. refl) (λ _. refl) (λ _. refl)
-      (λ _ a. absurd (false≢true (passed (soundIn setup m) (m .session) registers false Access false a .knows)))
+    close-status : P 1 → P (status (closed registers (numberedIn registers m)))
+    close-status one = close-ends (λ (k : Outcome). P (status k)) registers (numberedIn registers m) (λ _. failed) (λ _. one)
 
-  -- one whose argument is refused: the code that it is handed
-  broken-status : (code n : ℕ) → status (commandAt n .whenBroken code registers (numberedIn registers m)) ≡ code
-  broken-status code =
-      each-command (λ (_ : ℕ) (c : table.Command). status (c .whenBroken code registers (numberedIn registers m)) ≡ code)
-      refl refl refl refl refl refl refl refl refl refl (λ _. refl)
+    flush-status : P 1 → P (status (flushed registers (numberedIn registers m)))
+    flush-status one =
+        flush-ends (λ (k : Outcome). P (status k)) registers (holding (flushing (numberedIn registers m .session) registers) m) (λ _. failed) (λ _. one)
 
-  -- by the first check that refuses
-  pub response-as : response setup registers m ≡ codeFor (m .session .version) (reasonIn setup registers m)
-  unfolding answerTo
-  response-as = ap status (mediate-as setup registers m (reasonIn setup registers m) refl) ∙ by (reasonIn setup registers m) refl
-    where
-      by : (r : Reason) → reasonIn setup registers m ≡ r
-          → status (answerTo r (commandIn registers) setup registers m) ≡ codeFor (m .session .version) r
-      by Accepted a = served-status (commandOf registers) a
-      by System a = refl
-      by Repeated a = refl
-      by Unknown a = refl
-      by Suspended a = refl
-      by Windowless a = refl
-      by Argument a = broken-status 2 (commandOf registers)
+    served-status : P 1 → (n : ℕ) → reasonOf (commandAt n) (soundIn setup m) registers m ≡ Accepted
+        → P (status (commandAt n .leaves setup registers (numberedIn registers m)))
+    served-status one =
+        each-command
+        (λ (_ : ℕ) (c : table.Command). reasonOf c (soundIn setup m) registers m ≡ Accepted → P (status (c .leaves setup registers (numberedIn registers m))))
+        (λ _. one) (λ _. subst P (sym info-status) one) (λ _. subst P (sym flash-info-status) one) (λ _. create-status Read one)
+        (λ _. close-status one) (λ _. create-status Write one) (λ _. one) (λ _. flush-status one) (λ _. one) (λ _. one)
+        (λ _ a. absurd (false≢true (passed (soundIn setup m) (m .session) registers false Access false a .knows)))
+
+    -- one whose argument is refused: the code that it is handed, but in a create WRITE_ERROR comes before it
+    broken-status : (code : ℕ) → P code → (n : ℕ) → P (status (commandAt n .whenBroken code registers (numberedIn registers m)))
+    broken-status code p =
+        each-command (λ (_ : ℕ) (c : table.Command). P (status (c .whenBroken code registers (numberedIn registers m))))
+        p p p first p first p p p p (λ _. p)
+      where
+        first : P (cond (flushWhole (numberedIn registers m) .failed) 3 code)
+        first = chosen P (flushWhole (numberedIn registers m) .failed) 3 code (λ _. failed) (λ _. p)
+
+    -- by the first check that refuses
+    pub response-as : P (codeFor (m .session .version) (reasonIn setup registers m)) → P (response setup registers m)
+    unfolding answerTo
+    response-as p =
+        subst (λ (o : Outcome). P (status o)) (sym (mediate-as setup registers m (reasonIn setup registers m) refl)) (by (reasonIn setup registers m) refl p)
+      where
+        by : (r : Reason) → reasonIn setup registers m ≡ r → P (codeFor (m .session .version) r)
+            → P (status (answerTo r (commandIn registers) setup registers m))
+        by Accepted a q = served-status q (commandOf registers) a
+        by System a q = q
+        by Repeated a q = q
+        by Unknown a q = q
+        by Suspended a q = q
+        by Windowless a q = q
+        by Argument a q = broken-status 2 q (commandOf registers)
 
 -- ---- the codes
 
@@ -103,7 +120,7 @@ code-few version Argument = lit≤ tt
 
 pub response-few : (setup : Setup) (registers : List ℕ) (m : Machine) → response setup registers m ≤ 8
 response-few setup registers m =
-    subst (λ (n : ℕ). n ≤ 8) (sym (response-as setup registers m)) (code-few (m .session .version) (reasonIn setup registers m))
+    response-as setup registers m (λ (n : ℕ). n ≤ 8) (lit≤ tt) (code-few (m .session .version) (reasonIn setup registers m))
 
 -- 4 is SYSTEM_ERROR's alone
 not-one : _≡_ {A = ℕ} 1 4 → ⊥
@@ -111,6 +128,9 @@ not-one e = omega arith
 
 not-two : _≡_ {A = ℕ} 2 4 → ⊥
 not-two e = omega arith
+
+not-three : _≡_ {A = ℕ} 3 4 → ⊥
+not-three e = omega arith
 
 code-system : (version : ℕ) (r : Reason) → codeFor version r ≡ 4 → r ≡ System
 code-system version Accepted e = absurd (not-one e)
@@ -122,8 +142,9 @@ code-system version Windowless e = absurd (chosen (λ (n : ℕ). n ≡ 4 → ⊥
 code-system version Argument e = absurd (not-two e)
 
 pub response-system : (setup : Setup) (registers : List ℕ) (m : Machine) → response setup registers m ≡ 4 → reasonIn setup registers m ≡ System
-response-system setup registers m e =
-    code-system (m .session .version) (reasonIn setup registers m) (sym (response-as setup registers m) ∙ e)
+response-system setup registers m =
+    response-as setup registers m (λ (n : ℕ). n ≡ 4 → reasonIn setup registers m ≡ System) (λ e. absurd (not-three e))
+    (code-system (m .session .version) (reasonIn setup registers m))
 
 -- ---- the completion code of a message that is taken
 

@@ -11,6 +11,7 @@ use Rattle.units.specs.Units.{roundUp}
 use Rattle.units.proofs.Cases.{chosen}
 use Rattle.buffers.specs.Ranges.{range}
 use Rattle.session.specs.declared.Session.{Session}
+use Rattle.session.specs.declared.Window.the-variants.{Read, Write}
 use Rattle.session.specs.Machine.{Setup, Machine, lent, holding}
 use Rattle.session.specs.Marks.{dirty}
 use Rattle.session.specs.Record.{withVersion}
@@ -23,8 +24,9 @@ use Rattle.registers.specs.Registers.{commandOf, argument}
 use Rattle.messages.specs.Parameters.{table, rowOf}
 use Rattle.messages.specs.Messages.{unpacked, packedFrom, statusOf}
 use Rattle.mailbox.specs.Commands.{Outcome, leaving, answered, numberedIn, marked, infoArguments, flushedAll}
-use Rattle.mailbox.specs.Table.{Command, getInfo, getFlashInfo, createReadWindow, createWriteWindow, flush, unknown}
+use Rattle.mailbox.specs.Table.{Command, getInfo, getFlashInfo, createReadWindow, closeWindow, createWriteWindow, flush, unknown}
 use Rattle.mailbox.specs.Mediator.{commandAt, commandIn, reasonOf, mediate}
+use Rattle.mailbox.proofs.Ends.{close-ends, flush-ends, open-ends}
 use Rattle.mailbox.proofs.Mediating.{carried, each-command}
 use Rattle.invariants.proofs.Succeeding.{accepted}
 use Rattle.transports.specs.Same.{answers}
@@ -50,7 +52,7 @@ agreed-some a e = let n = eqb-false a 0 e in (omega arith, omega arith)
 -- ---- a command that no check refused, by its row, at a version
 module _ (setup : Setup) (registers : List ℕ) (s : Session) (flash worn memory : List ℕ) where
   abbrev at : ℕ → Machine
-  at version = lent (withVersion version s) flash memory
+  at version = lent (withVersion version s) flash worn memory
 
   abbrev Served : ℕ → ℕ → Command → Type 0
   Served version command c =
@@ -69,13 +71,15 @@ module _ (setup : Setup) (registers : List ℕ) (s : Session) (flash worn memory
       let m = numberedIn registers (at version) in
       info-whole (m .session) registers (roundUp (length memory)) (setup .timeout) m (min (argument 0 registers) 2) (h .0) (h .1)
 
-  -- FLUSH at version 1, with or without marks of its own
+  -- FLUSH at version 1, with or without marks of its own; where an erase fails, as everywhere, the arguments are zero
   flush-served : Served 1 8 flush
   unfolding rowOf table
   flush-served a =
       let m = numberedIn registers (at 1) in
       chosen (λ (t : Session). Whole 8 (flushedAll registers (holding t m))) (flushMarks (m .session) registers)
-      (marked dirty (m .session) registers) (m .session) (λ _. refl) (λ _. refl)
+      (marked dirty (m .session) registers) (m .session)
+      (λ _. flush-ends (Whole 8) registers (holding (marked dirty (m .session) registers) m) (λ _. refl) (λ _. refl))
+      (λ _. flush-ends (Whole 8) registers m (λ _. refl) (λ _. refl))
 
   -- one that the version does not know is refused
   not-known : (c : Command) (version : ℕ) {A : Type 0} → c .known version ≡ false
@@ -86,21 +90,31 @@ module _ (setup : Setup) (registers : List ℕ) (s : Session) (flash worn memory
   unfolding rowOf table
   whole-0 =
       each-command (Served 0)
-      (λ _. refl) (info-served 0) (not-known getFlashInfo 0 refl) (not-known createReadWindow 0 refl) (λ _. refl) (not-known createWriteWindow 0 refl)
+      (λ _. refl) (info-served 0) (not-known getFlashInfo 0 refl) (not-known createReadWindow 0 refl) (not-known closeWindow 0 refl) (not-known createWriteWindow 0 refl)
       (λ _. refl) (not-known flush 0 refl) (λ _. refl) (λ _. refl) (λ n. not-known unknown 0 refl)
 
   whole-1 : (n : ℕ) → Served 1 n (commandAt n)
   unfolding rowOf table
   whole-1 =
+      let m = numberedIn registers (at 1) in
       each-command (Served 1)
-      (λ _. refl) (info-served 1) (λ _. refl) (λ _. refl) (λ _. refl) (λ _. refl) (λ _. refl) flush-served (λ _. refl) (λ _. refl)
+      (λ _. refl) (info-served 1) (λ _. refl)
+      (λ _. open-ends (Whole 4) registers m Read _ _ setup (λ _. refl) (λ _. refl))
+      (λ _. close-ends (Whole 5) registers m (λ _. refl) (λ _. refl))
+      (λ _. open-ends (Whole 6) registers m Write _ _ setup (λ _. refl) (λ _. refl))
+      (λ _. refl) flush-served (λ _. refl) (λ _. refl)
       (λ n. not-known unknown 1 refl)
 
   whole-2 : (n : ℕ) → Served 2 n (commandAt n)
   unfolding rowOf table
   whole-2 =
+      let m = numberedIn registers (at 2) in
       each-command (Served 2)
-      (λ _. refl) (info-served 2) (λ _. refl) (λ _. refl) (λ _. refl) (λ _. refl) (λ _. refl) (λ _. refl) (λ _. refl) (λ _. refl)
+      (λ _. refl) (info-served 2) (λ _. refl)
+      (λ _. open-ends (Whole 4) registers m Read _ _ setup (λ _. refl) (λ _. refl))
+      (λ _. close-ends (Whole 5) registers m (λ _. refl) (λ _. refl))
+      (λ _. open-ends (Whole 6) registers m Write _ _ setup (λ _. refl) (λ _. refl))
+      (λ _. refl) (λ _. flush-ends (Whole 8) registers m (λ _. refl) (λ _. refl)) (λ _. refl) (λ _. refl)
       (λ n. not-known unknown 2 refl)
 
   whole-at : (version n : ℕ) → version ≤ 2 → Served version n (commandAt n)

@@ -84,7 +84,7 @@ pub record Mediated (message : List ℕ) (o : Outcome) (s : Served) : Type 0 whe
       → (length (s .response) ≡ 3) × (getD (s .response) 2 0 ≡ 0x80 + getD (o .registers) 13 0)
 
 -- "Refusals, in order: under two bytes, the empty response; foreign pair, C1 hex; under four bytes, or a wrong length for a known command at its version, C7
--- hex"; "A command unknown at the version goes to the mediator at any length". Of every message, session and buffer, sound or not
+-- hex"; "A command unknown at the version goes to the mediator at any length". Of every message, session, buffer and map of worn blocks, sound or not
 abbrev pub AnsweredAsSaid : Type 0
 AnsweredAsSaid =
     (setup : Setup) (pair : Pair) (message : List ℕ) (m : Machine)

@@ -1,5 +1,5 @@
 -- Demand 3 with every command of the second run, and the FLUSH of the flush never stopped, by mailbox or by message: document 00, demand 3, and document 02,
--- Ticket 6. The first list has no commands: steps, suspends and resumes are the board's own calls. Proved in proofs/Demand.antt.
+-- Tickets 6 and 8. The first list has no commands: steps, suspends and resumes are the board's own calls. Proved in proofs/Demand.antt.
 use Prim.Native.Nat.{ℕ, _≤_}
 use mathlib.Core.Path.{_≡_}
 use mathlib.Core.Bool.{true}
@@ -20,7 +20,7 @@ use Rattle.mailbox.specs.Table.{getInfo, createWriteWindow, markDirty, flush, e
 use Rattle.mailbox.specs.Mediator.{mediate, response}
 use Rattle.ipmi.specs.Served.{served}
 use Rattle.recovery.specs.Cut.{FirstCall, cut}
-use Rattle.recovery.specs.Second.{Allowed, StepsSucceed, begun, unstopped}
+use Rattle.recovery.specs.Second.{Allowed, StepsSucceed, begun, MeetsNone, unstopped}
 use Rattle.recovery.specs.Second as second
 use Rattle.transports.specs.Same.{completionIn}
 use Rattle.transports.specs.Runs.{Input, call, message, leftAll}
@@ -81,44 +81,48 @@ AddsNone bySteps s = Unit
 AddsNone (byFlush request) s = flushing s (registersIn request (s .version)) .marks ≡ s .marks
 
 -- ---- the second run, call by call
-abbrev pub agreeing : Setup → Request → List ℕ → List ℕ → Machine
-agreeing setup info flash memory = sent setup info (begun flash memory)
+abbrev pub agreeing : Setup → Request → List ℕ → List ℕ → List ℕ → Machine
+agreeing setup info flash worn memory = sent setup info (begun flash worn memory)
 
-abbrev pub opening : Setup → Request → Request → List ℕ → List ℕ → Machine
-opening setup info create flash memory = sent setup create (agreeing setup info flash memory)
+abbrev pub opening : Setup → Request → Request → List ℕ → List ℕ → List ℕ → Machine
+opening setup info create flash worn memory = sent setup create (agreeing setup info flash worn memory)
 
-abbrev pub marking : Setup → Request → Request → List Input → List ℕ → List ℕ → Machine
-marking setup info create inputs flash memory = leftAll setup inputs (opening setup info create flash memory)
+abbrev pub marking : Setup → Request → Request → List Input → List ℕ → List ℕ → List ℕ → Machine
+marking setup info create inputs flash worn memory = leftAll setup inputs (opening setup info create flash worn memory)
 
 -- as `SecondRun` of crate recovery, each command by mailbox or by message
 pub record SecondRun (setup : Setup) (m : Machine) (flash : List ℕ) : Type 0 where
+  -- "its second run must meet no worn block" (02, Ticket 8): a map of its own, of which that GET_INFO succeeds tells the length
+  pub worn : List ℕ
+  pub good : MeetsNone worn (m .session)
   pub other : List ℕ
   pub other-size : length other ≡ length (m .memory)
   -- GET_INFO
   pub info : Request
   pub info-is : codeOf info ≡ getInfo .code
-  pub info-succeeds : Succeeds setup info (begun flash other)
-  pub agreed : agreeing setup info flash other .session .version ≡ 2
+  pub info-succeeds : Succeeds setup info (begun flash worn other)
+  pub agreed : agreeing setup info flash worn other .session .version ≡ 2
   -- CREATE_WRITE_WINDOW
   pub create : Request
   pub create-is : codeOf create ≡ createWriteWindow .code
-  pub create-succeeds : Succeeds setup create (agreeing setup info flash other)
-  pub same-first : opening setup info create flash other .session .first ≡ m .session .first
-  pub same-size : opening setup info create flash other .session .size ≡ m .session .size
+  pub create-succeeds : Succeeds setup create (agreeing setup info flash worn other)
+  pub same-first : opening setup info create flash worn other .session .first ≡ m .session .first
+  pub same-size : opening setup info create flash worn other .session .size ≡ m .session .size
   -- the list
   pub inputs : List Input
   pub allowed : AllMark (m .session .size) inputs
-  pub same-marks : marking setup info create inputs flash other .session .marks ≡ m .session .marks
+  pub same-marks : marking setup info create inputs flash worn other .session .marks ≡ m .session .marks
   pub same-bytes : (x : ℕ) → programs (getD (m .session .marks) (blockHolding x) 0) ≡ true
-      → getD (marking setup info create inputs flash other .memory) x 0 ≡ getD (m .memory) x 0
+      → getD (marking setup info create inputs flash worn other .memory) x 0 ≡ getD (m .memory) x 0
   -- the flush
   pub way : Way
-  pub way-succeeds : FlushSucceeds setup way (marking setup info create inputs flash other)
+  pub way-succeeds : FlushSucceeds setup way (marking setup info create inputs flash worn other)
 
 abbrev pub secondEnd : (setup : Setup) (m : Machine) (flash : List ℕ) → SecondRun setup m flash → Machine
-secondEnd setup m flash r = marking setup (r .info) (r .create) (r .inputs) flash (r .other)
+secondEnd setup m flash r = marking setup (r .info) (r .create) (r .inputs) flash (r .worn) (r .other)
 
--- the claim: what holds at the cut is `Demand3`'s (crate recovery), and "for every two such lists, the chip equals that of the flush never stopped"
+-- the claim: what holds at the cut is `Demand3`'s (crate recovery), and "for every two such lists, the chip equals that of the flush never stopped", which is that
+-- "with every block good", whatever map the first list had (`unstopped`)
 abbrev pub Demand3ByMessage : Type 0
 Demand3ByMessage =
     (setup : Setup) (m : Machine) → soundIn setup m ≡ true → m .session .window ≡ Write

@@ -1,5 +1,5 @@
--- Worked examples of Ticket 6: messages with the responses that the papers give them. S = 4, flash all FF, C = 2, B = 16, T = 8; the board's pair is 3A and 5A, so
--- that a message of LUN 0 begins with E8 and its response with EC. Proved by one statement, in proofs/Examples.antt.
+-- Worked examples of Tickets 6 and 8: messages with the responses that the papers give them. S = 4, flash all FF, C = 2, B = 16, T = 8; the board's pair is 3A and
+-- 5A, so that a message of LUN 0 begins with E8 and its response with EC. Proved by one statement, in proofs/Examples.antt.
 use Prim.Native.Nat.{ℕ}
 use mathlib.Core.Path.{_≡_}
 use mathlib.Core.Bool.{Bool, true, false, _&&_}
@@ -37,14 +37,15 @@ holds (l ∷ rest) m =
     same (served setup pair (l .message) m .response) (l .response)
     && (eqb (served setup pair (l .message) m .actions) (l .actions) && holds rest (served setup pair (l .message) m .machine))
 
--- an example: a session, and its lines
+-- an example: a session, a map of worn blocks, and its lines
 pub record Example : Type 0 where
   pub session : Session
+  pub worn : List ℕ
   pub lines : List Line
 
 abbrev pub holdAll : List Example → Bool
 holdAll [] = true
-holdAll (e ∷ rest) = holds (e .lines) (lent (e .session) (replicate 16384 0xff) (replicate 8192 0x00)) && holdAll rest
+holdAll (e ∷ rest) = holds (e .lines) (lent (e .session) (replicate 16384 0xff) (e .worn) (replicate 8192 0x00)) && holdAll rest
 
 infix 60 _gets_
 -- how the lines are written: a message with its response, and one that takes chip actions
@@ -118,13 +119,56 @@ unsound =
     ∷ (0xe8 ∷ 0x5a ∷ 0x02 ∷ [] gets 0xec ∷ 0x5a ∷ 0xc7 ∷ [])
     ∷ []
 
+-- "any other status s becomes 80 hex + s (house), in three bytes": WRITE_ERROR (3) is 83. Version 2, with a window of flash blocks 1 and 2, of which 2 is worn, both
+-- marked as erased. FLUSH stops there, with the one action before it, and what it finished is clean; "FLUSH and CLOSE_WINDOW then answer WRITE_ERROR and the window
+-- stays active", so that ERASE is served. An argument is refused before that, "but in a create" after it, which "leaves no window"
+abbrev pub failing : List Line
+failing =
+    (0xe8 ∷ 0x5a ∷ 0x06 ∷ 0x01 ∷ 0x01 ∷ 0x00 ∷ 0x02 ∷ 0x00 ∷ []
+    gets 0xec ∷ 0x5a ∷ 0x00 ∷ 0x06 ∷ 0x01 ∷ 0x10 ∷ 0x00 ∷ 0x02 ∷ 0x00 ∷ 0x01 ∷ 0x00 ∷ [])
+    ∷ (0xe8 ∷ 0x5a ∷ 0x0a ∷ 0x02 ∷ 0x00 ∷ 0x00 ∷ 0x02 ∷ 0x00 ∷ [] gets 0xec ∷ 0x5a ∷ 0x00 ∷ 0x0a ∷ 0x02 ∷ [])
+    ∷ acting 1 (0xe8 ∷ 0x5a ∷ 0x08 ∷ 0x03 ∷ [] gets 0xec ∷ 0x5a ∷ 0x83 ∷ [])
+    ∷ (0xe8 ∷ 0x5a ∷ 0x08 ∷ 0x04 ∷ [] gets 0xec ∷ 0x5a ∷ 0x83 ∷ [])
+    ∷ (0xe8 ∷ 0x5a ∷ 0x05 ∷ 0x05 ∷ 0x00 ∷ [] gets 0xec ∷ 0x5a ∷ 0x83 ∷ [])
+    ∷ (0xe8 ∷ 0x5a ∷ 0x0a ∷ 0x06 ∷ 0x00 ∷ 0x00 ∷ 0x01 ∷ 0x00 ∷ [] gets 0xec ∷ 0x5a ∷ 0x00 ∷ 0x0a ∷ 0x06 ∷ [])
+    ∷ (0xe8 ∷ 0x5a ∷ 0x05 ∷ 0x07 ∷ 0x02 ∷ [] gets 0xec ∷ 0x5a ∷ 0x82 ∷ [])
+    ∷ acting 1 (0xe8 ∷ 0x5a ∷ 0x04 ∷ 0x08 ∷ 0x09 ∷ 0x00 ∷ 0x00 ∷ 0x00 ∷ [] gets 0xec ∷ 0x5a ∷ 0x83 ∷ [])
+    ∷ (0xe8 ∷ 0x5a ∷ 0x08 ∷ 0x09 ∷ [] gets 0xec ∷ 0x5a ∷ 0x87 ∷ [])
+    ∷ []
+
+-- version 1, with a window of flash blocks 2 and 3, of which 3 is worn: the mark that FLUSH adds itself stays, so that CLOSE_WINDOW and the create that comes then
+-- fail too; after that there is no window, and nothing to flush
+abbrev pub failingFirst : List Line
+failingFirst =
+    (0xe8 ∷ 0x5a ∷ 0x06 ∷ 0x01 ∷ 0x02 ∷ 0x00 ∷ [] gets 0xec ∷ 0x5a ∷ 0x00 ∷ 0x06 ∷ 0x01 ∷ 0x10 ∷ 0x00 ∷ [])
+    ∷ (0xe8 ∷ 0x5a ∷ 0x08 ∷ 0x02 ∷ 0x03 ∷ 0x00 ∷ 0x01 ∷ 0x00 ∷ 0x00 ∷ 0x00 ∷ [] gets 0xec ∷ 0x5a ∷ 0x83 ∷ [])
+    ∷ (0xe8 ∷ 0x5a ∷ 0x05 ∷ 0x03 ∷ [] gets 0xec ∷ 0x5a ∷ 0x83 ∷ [])
+    ∷ (0xe8 ∷ 0x5a ∷ 0x04 ∷ 0x04 ∷ 0x00 ∷ 0x00 ∷ [] gets 0xec ∷ 0x5a ∷ 0x83 ∷ [])
+    ∷ (0xe8 ∷ 0x5a ∷ 0x04 ∷ 0x05 ∷ 0x00 ∷ 0x00 ∷ [] gets 0xec ∷ 0x5a ∷ 0x00 ∷ 0x04 ∷ 0x05 ∷ 0x10 ∷ 0x00 ∷ [])
+    ∷ []
+
+-- "a map whose length is not S is SYSTEM_ERROR, first", after the refusals of the message itself
+abbrev pub unmapped : List Line
+unmapped =
+    (0xe8 ∷ 0x5a ∷ 0x02 ∷ 0x01 ∷ 0x02 ∷ [] gets 0xec ∷ 0x5a ∷ 0x84 ∷ [])
+    ∷ (0xe8 ∷ 0x5a ∷ 0x0b ∷ 0x01 ∷ [] gets 0xec ∷ 0x5a ∷ 0x84 ∷ [])
+    ∷ (0xe8 ∷ 0x5a ∷ 0x02 ∷ 0x01 ∷ [] gets 0xec ∷ 0x5a ∷ 0xc7 ∷ [])
+    ∷ []
+
+-- "one byte a block, 0 good"
+abbrev pub good : List ℕ
+good = 0 ∷ 0 ∷ 0 ∷ 0 ∷ []
+
 unfoldable pub examples : List Example
 examples =
-    record { session = fresh; lines = unversioned }
-    ∷ record { session = withVersion 1 fresh; lines = first }
-    ∷ record { session = fresh; lines = second }
-    ∷ record { session = withVersion 2 fresh; lines = refusals }
-    ∷ record { session = withVersion 3 fresh; lines = unsound }
+    record { session = fresh; worn = good; lines = unversioned }
+    ∷ record { session = withVersion 1 fresh; worn = good; lines = first }
+    ∷ record { session = fresh; worn = good; lines = second }
+    ∷ record { session = withVersion 2 fresh; worn = good; lines = refusals }
+    ∷ record { session = withVersion 3 fresh; worn = good; lines = unsound }
+    ∷ record { session = withVersion 2 fresh; worn = 0 ∷ 0 ∷ 1 ∷ 0 ∷ []; lines = failing }
+    ∷ record { session = withVersion 1 fresh; worn = 0 ∷ 0 ∷ 0 ∷ 0xff ∷ []; lines = failingFirst }
+    ∷ record { session = withVersion 2 fresh; worn = 0 ∷ 0 ∷ 0 ∷ []; lines = unmapped }
     ∷ []
 
 -- the claim: every line of every example holds

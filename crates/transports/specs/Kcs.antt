@@ -40,7 +40,7 @@ AnswerGoesOn =
 
 -- ---- a list of mailbox commands, sent as messages through the port one after the other
 
--- what is left of the port, of the session and of both buffers, and the responses that the host has read
+-- what is left of the port, of the session, of both buffers and of the map of worn blocks, and the responses that the host has read
 pub record Line : Type 0 where
   pub port : Port
   pub machine : Machine
@@ -75,8 +75,8 @@ abbrev pub AllOf16 : List (List ℕ) → Type 0
 AllOf16 [] = Unit
 AllOf16 (registers ∷ rest) = (length registers ≡ 16) × AllOf16 rest
 
--- the claim: through the port from every state of it, any list of commands leaves the session and both buffers of the same list by mailbox, and the host reads
--- the same answers
+-- the claim: through the port from every state of it, any list of commands leaves the session, both buffers and the map of the same list by mailbox, and the host
+-- reads the same answers
 abbrev pub KcsAsMailbox : Type 0
 KcsAsMailbox =
     (setup : Setup) (pair : Pair) (lun turns : ℕ) (list : List (List ℕ)) (p : Port) (m : Machine) → lun < 4 → 16 < turns → AllOf16 list

@@ -47,8 +47,8 @@ callsOf setup (input ∷ inputs) m = callsFor input m ++ callsOf setup inputs (l
 abbrev pub InputsAreCalls : Type 0
 InputsAreCalls = (setup : Setup) (inputs : List Input) (m : Machine) → leftAll setup inputs m ≡ calledAll setup (callsOf setup inputs m) m
 
--- so whatever holds after every run of calls holds after every run with messages: the lengths of both buffers, the event bits that no call changes, the kept
--- numbers of marks, that a sound session stays sound
+-- so whatever holds after every run of calls holds after every run with messages: the lengths of both buffers and of the map, the event bits that no call changes,
+-- the kept numbers of marks, that a sound session stays sound
 abbrev pub EveryInput : Type 1
 EveryInput =
     (P : Machine → Type 0) (setup : Setup) (m : Machine) → ((calls : List Call) → P (calledAll setup calls m))

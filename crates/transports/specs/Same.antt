@@ -66,7 +66,7 @@ pub record Equals (ps : List Parameter) (response registers : List ℕ) : Type 0
 
 -- ---- what a mailbox command leaves, and what the message leaves
 pub record Same (message : List ℕ) (o : Outcome) (s : Served) : Type 0 where
-  -- "the same session, flash and window memory", and the same number of chip actions
+  -- "the same session, flash and window memory", the same map, and the same number of chip actions
   pub machine : s .machine ≡ o .machine
   pub actions : s .actions ≡ o .actions
   -- "the same answer values": the status is 1 exactly if the completion code is 00, else it is the code less 80 hex,
@@ -76,7 +76,7 @@ pub record Same (message : List ℕ) (o : Outcome) (s : Served) : Type 0 where
   -- "in three bytes"
   pub refused : (statusOf (o .registers) ≡ 1 → ⊥) → s .response ≡ headed message (0x80 + statusOf (o .registers))
 
--- the claim, of every content of the registers, known to the version or not, every session, sound or not, and every buffer
+-- the claim, of every content of the registers, known to the version or not, every session, sound or not, every buffer and every map of worn blocks
 abbrev pub SameByMessage : Type 0
 SameByMessage =
     (setup : Setup) (pair : Pair) (lun : ℕ) (registers : List ℕ) (m : Machine) → lun < 4 → length registers ≡ 16
