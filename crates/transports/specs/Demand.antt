@@ -20,7 +20,8 @@ use Rattle.mailbox.specs.Table.{getInfo, createWriteWindow, markDirty, flush, e
 use Rattle.mailbox.specs.Mediator.{mediate, response}
 use Rattle.ipmi.specs.Served.{served}
 use Rattle.recovery.specs.Cut.{FirstCall, cut}
-use Rattle.recovery.specs.Second.{Allowed, StepsSucceed, begun, MeetsNone, unstopped}
+use Rattle.invariants.specs.Worn.{MeetsNone}
+use Rattle.recovery.specs.Second.{Allowed, StepsSucceed, begun, unstopped}
 use Rattle.recovery.specs.Second as second
 use Rattle.transports.specs.Same.{completionIn}
 use Rattle.transports.specs.Runs.{Input, call, message, leftAll}
