@@ -1,6 +1,6 @@
 -- A flush on a chip with worn blocks: what is done before the first failure, by the actions and by the marks, and what is left to do.
 use mathlib.Core.Path.{_≡_, refl, sym, ap, _∙_}
-use mathlib.Core.Bool.{Bool, true, false, cond, not, _&&_, _||_, true≢false}
+use mathlib.Core.Bool.{Bool, true, false, _&&_, _||_, true≢false}
 use mathlib.Core.List.{List, [], _∷_, _++_, append-nil}
 use mathlib.Core.Logic.{⊎-elim}
 use Prim.Native.Nat.{ℕ, zero, suc, _+_, _-_, _≤_, _<_}
@@ -13,7 +13,7 @@ use borrow.Author.Tests.{lt-ltb, le-ltb}
 use Rattle.units.proofs.Cases.{decided, below-or, both}
 use Rattle.buffers.specs.Ranges.{replace}
 use Rattle.session.specs.Marks.{erases}
-use Rattle.flush.specs.Actions.{Action, erase, program, pagesFrom, blockActions, actionsFrom, flushActions}
+use Rattle.flush.specs.Actions.{Action, erase, pagesFrom, blockActions, actionsFrom, flushActions}
 use Rattle.flush.specs.Worn.{isWorn, fails, untilFailure, someFail, finishedFrom, finishedBlocks, marksKept}
 use Rattle.flush.proofs.Lists.{by-asked, clear-none, actions-append}
 

@@ -11,7 +11,7 @@ use Rattle.session.specs.declared.Session.{Session}
 use Rattle.session.specs.declared.Window.{Window}
 use Rattle.session.specs.declared.Window.the-variants.{Read, Write}
 use Rattle.session.specs.Machine.{Setup, lent}
-use Rattle.soundness.specs.Soundness.{sessionSound, sound, soundAt, soundIn}
+use Rattle.soundness.specs.Soundness.{sessionSound, sound, soundIn}
 use Rattle.soundness.proofs.Facts.{measured}
 use Rattle.session.specs.Marks.{dirty}
 use Rattle.flush.specs.Window.{performIn, flushWhole}

@@ -17,7 +17,7 @@ use Rattle.session.specs.Events.{controlLost, windowReset, setBits, clearBits}
 use Rattle.session.specs.Record.{clean, fresh, withAccess, dropWindow}
 use Rattle.session.specs.Suspension.{answer}
 use Rattle.session.specs.Marks.{dirty, ofKind, marksOf, countsOf}
-use Rattle.soundness.specs.Soundness.{markable, marksSound, sound, soundAt, soundIn}
+use Rattle.soundness.specs.Soundness.{markable, marksSound, soundAt, soundIn}
 use Rattle.soundness.specs.declared.pending_work.PendingWork.the-variants.{Marked}
 use Rattle.soundness.proofs.Facts.{miscounted, measured}
 use Rattle.soundness.proofs.Answered.{pending-right, pending-wrong}

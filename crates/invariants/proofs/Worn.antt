@@ -4,11 +4,11 @@ use mathlib.Core.Bool.{Bool, true, false, cond, not, _&&_, _||_, true≢false, f
 use mathlib.Core.List.{List, [], _∷_, _++_}
 use mathlib.Core.Logic.{_⊎_, inl, inr, ⊎-elim}
 use mathlib.Core.Option.{Option, none, some}
-use Prim.Native.Nat.{ℕ, zero, suc, _+_, _*_, _≤_, _<_, min}
+use Prim.Native.Nat.{ℕ, suc, _+_, _*_, _≤_, _<_, min}
 use native.Mathlib.Omega.{arith}
 use lib.Dec.{ltb, eqb}
 use lib.ListN.{length, getD, take, drop, replicate, length-replicate, drop-of-length-le}
-use borrow.Author.Tests.{ne-eqb, lt-ltb, le-ltb}
+use borrow.Author.Tests.{lt-ltb, le-ltb}
 use Rattle.units.specs.Units.{blockBytes, toBytes, roundUp}
 use Rattle.units.proofs.Cases.{decided, chosen}
 use Rattle.session.specs.declared.Session.{Session}
@@ -36,16 +36,16 @@ use Rattle.refusals.proofs.Accepting.{passed}
 use Rattle.registers.specs.Registers.{commandOf, sequenceOf, argument, number, bytesOf, padded, reply}
 use Rattle.marklist.specs.MarkList.{answerFor, listed}
 use Rattle.mailbox.specs.Commands.{Outcome, numbered, numberedIn, marked, refused, resetAnswer, infoArguments, sizeFor, hint, opened, dirtyAnswer, ackAnswer, closing, stopped, closed, created, flushing, flushedThrough, flushedAll}
-use Rattle.mailbox.specs.Table.{Command, create}
+use Rattle.mailbox.specs.Table.{Command}
 use Rattle.mailbox.specs.Mediator.{commandAt, commandIn, reasonOf, reasonIn, answerTo, obeyed, mediate, response}
 use Rattle.mailbox.proofs.Ends.{codeOf, close-ends, flush-ends, open-ends, code-at, opened-code}
-use Rattle.mailbox.proofs.Mediating.{mediate-as, carried, each-command}
+use Rattle.mailbox.proofs.Mediating.{carried, each-command}
 use Rattle.invariants.specs.Codes.{isCreate}
 use Rattle.invariants.specs.Demand2.{atClose, flushedBy, flushedFor, failsAt, reached}
-use Rattle.invariants.specs.Worn.{MapRefused, meets, kept, failing, WriteErrorExactly, Failed, FailedAsSaid, StepsAsSaid, AllGood, Folded, GoodAsBefore, MeetsNone, FlushMended}
+use Rattle.invariants.specs.Worn.{MapRefused, meets, kept, failing, WriteErrorExactly, FailedAsSaid, StepsAsSaid, AllGood, Folded, GoodAsBefore, MeetsNone, FlushMended}
 use Rattle.invariants.proofs.CarriedOut.{window-fits, window-room, fit, window-marks, done-reached, nothing, not-markable}
 use Rattle.invariants.proofs.Demand2.{argument-late, every-command}
-use Rattle.invariants.proofs.Kept.{flush-sound, sounds-unless}
+use Rattle.invariants.proofs.Kept.{flush-sound}
 use Rattle.invariants.proofs.MarksKept.{cleared-sound}
 use Rattle.invariants.proofs.Marks.{create-either, one-three}
 use Rattle.invariants.proofs.Refused.{refusals-as-said}

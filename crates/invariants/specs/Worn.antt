@@ -15,7 +15,7 @@ use Rattle.session.specs.Marks.{isMarked, marksOf}
 use Rattle.session.specs.Record.{withPrevious, withMarks, dropWindow}
 use Rattle.soundness.specs.Soundness.{soundIn}
 use Rattle.flush.specs.Window.{windowActions, performIn, advanced}
-use Rattle.refusals.specs.declared.Reason.the-variants.{Accepted, System, Argument}
+use Rattle.refusals.specs.declared.Reason.the-variants.{Accepted, System}
 use Rattle.registers.specs.Registers.{commandOf, sequenceOf}
 use Rattle.marklist.specs.MarkList.{listCode, listedIn}
 use Rattle.mailbox.specs.Commands.{flushing}
