@@ -97,7 +97,7 @@ abbrev pub flushLeft : Flush → List ℕ → Flushed
 flushLeft f flash = record { actions = f .actions; failed = f .failed; marks = f .marks; flash = flash }
 
 -- all actions of a sound session's window, suspended or not, up to the first that fails: "The action count leaves out the failed erase" (02, Ticket
--- 8). Where none fails no mark is left. Of any other session nothing is done (house: a command that flushes has passed the table)
+-- 8). Where none fails no mark is left. Of any other session nothing is done, and its marks are not told (house: a command that flushes has passed the table)
 unfoldable pub flushWhole : Machine → Flushed
 flushWhole m =
     cond (sound (length (m .flash)) (length (m .worn)) (length (m .memory)) (m .session))

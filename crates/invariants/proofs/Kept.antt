@@ -3,11 +3,11 @@ use mathlib.Core.Path.{_≡_, refl, sym, ap, _∙_}
 use mathlib.Core.Bool.{Bool, true, false, not, _&&_, false≢true}
 use mathlib.Core.List.{List}
 use mathlib.Core.Logic.{⊎-elim}
-use Prim.Native.Nat.{ℕ, _+_, _≤_, _<_, min}
+use Prim.Native.Nat.{ℕ, _+_, _*_, _≤_, _<_, min}
 use native.Mathlib.Omega.{arith}
 use lib.Dec.{leb, eqb}
 use lib.ListN.{length}
-use borrow.Author.Tests.{le-leb, leb-false, eqb-false, not-false}
+use borrow.Author.Tests.{le-leb, leb-false, eq-eqb, eqb-false, not-false}
 use Rattle.units.proofs.Cases.{decided, chosen}
 use Rattle.units.specs.Units.{roundUp}
 use Rattle.session.specs.declared.Session.{Session}
@@ -15,7 +15,7 @@ use Rattle.session.specs.declared.Window.{Window}
 use Rattle.session.specs.declared.Window.the-variants.{Closed, Read, Write}
 use Rattle.session.specs.Machine.{Setup, Machine, lent}
 use Rattle.session.specs.Record.{clean, withVersion, withMarks, dropWindow}
-use Rattle.soundness.specs.Soundness.{accessSound, activeSound, windowSound, markable, marksSound, sessionSound, sound, soundAt, soundIn}
+use Rattle.soundness.specs.Soundness.{sizeSound, sizesSound, accessSound, activeSound, windowSound, markable, marksSound, sessionSound, sound, soundAt, soundIn}
 use Rattle.soundness.proofs.Access.{acknowledged-access, suspended-sound, resumed-sound, changed-sound}
 use Rattle.soundness.proofs.Facts.{sound-with, refitted-at, measured}
 use Rattle.soundness.proofs.SoundMarks.{clean-sound}
@@ -36,7 +36,7 @@ use Rattle.mailbox.specs.Table.{Command, createReadWindow, createWriteWindow, c
 use Rattle.mailbox.specs.Mediator.{commandAt, reasonOf, reasonIn}
 use Rattle.mailbox.proofs.Ends.{close-ends, flush-ends, open-ends}
 use Rattle.mailbox.proofs.Mediating.{each-command, each-answer}
-use Rattle.invariants.specs.Kept.{FreshSound, CommandKeeps, ListKeeps, AccessKeeps, FlushSound}
+use Rattle.invariants.specs.Kept.{FreshSound, FreshAsSaid, CommandKeeps, ListKeeps, AccessKeeps, FlushSound}
 use Rattle.mailbox.proofs.Front.{size-fits}
 use Rattle.invariants.proofs.MarksKept.{marked-sound, list-sound, cleared-sound}
 
@@ -221,6 +221,15 @@ access-keeps setup flash worn memory s e =
 pub fresh-sound : FreshSound
 unfolding soundAt sound sessionSound
 fresh-sound setup flash worn memory sizes most = rw (sizes, le-leb _ _ most)
+
+pub fresh-as-said : FreshAsSaid
+unfolding sizesSound sizeSound
+fresh-as-said setup S C s t c d b =
+    let flash : roundUp (4096 * S) ≡ S = omega arith in
+    let memory : roundUp (4096 * C) ≡ C = omega arith in
+    fresh-sound setup (4096 * S) S (4096 * C)
+    (rw (flash, memory, le-leb 1 S s, le-leb S 65535 t, eq-eqb (S * 4096) (4096 * S) (omega arith), le-leb 1 C c, le-leb C 64 d, eq-eqb (C * 4096) (4096 * C) (omega arith)) (eq-eqb S S refl))
+    (rw memory b)
 
 -- a command that is not refused with SYSTEM_ERROR is sent to a sound session
 pub sounds-unless : (setup : Setup) (registers : List ℕ) (m : Machine) → (reasonIn setup registers m ≡ System → ⊥) → soundIn setup m ≡ true

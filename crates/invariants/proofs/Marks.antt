@@ -36,7 +36,7 @@ use Rattle.mailbox.proofs.Ends.{codeOf, close-ends, flush-ends, open-ends, open
 use Rattle.mailbox.proofs.Mediating.{carried, each-command, each-answer, call-fits}
 use Rattle.invariants.specs.Codes.{isCreate}
 use Rattle.invariants.specs.Pending.{drops}
-use Rattle.invariants.specs.Marks.{isNamed, MarksAsSaid, SameWindow, SameMarks, MarksStay, AccessStays, NoWindow, WindowAsSaid}
+use Rattle.invariants.specs.Marks.{isNamed, MarksAsSaid, FlushMarksAsSaid, SameWindow, SameMarks, MarksStay, AccessStays, NoWindow, WindowAsSaid}
 use Rattle.invariants.proofs.Kept.{sounds-unless}
 
 -- ---- the marks, block by block: the named blocks as the claim has them
@@ -83,6 +83,23 @@ marks-as-said setup registers m long a block = (
       ∙ named-mark (m .session) registers (m .session .marks) 2 block
       (fits setup registers m long a (from 2 (m .session .version)) (ap (λ (n : ℕ). reasonOf (commandAt n) (soundIn setup m) registers m) (sym c) ∙ a)),
 )
+
+pub flush-marks-as-said : FlushMarksAsSaid
+unfolding commandAt
+flush-marks-as-said setup registers m long a c block =
+    let s = m .session in
+    let old = getD (s .marks) block 0 in
+    let p = passed (soundIn setup m) s registers (from 1 (s .version)) WriteWindow (flushMarks s registers && not (blocksNamed s registers .inside))
+    (ap (λ (n : ℕ). reasonOf (commandAt n) (soundIn setup m) registers m) (sym c) ∙ a) in
+    ⊎-elim
+    (λ (t : flushMarks s registers ≡ true).
+    let inside = named-within s registers (not-false (blocksNamed s registers .inside) (rw t at (p .argued))) in
+    ap (λ (b : Bool). getD (cond b (marked dirty s registers) s .marks) block 0) t
+    ∙ named-mark s registers (s .marks) 1 block (subst (λ (n : ℕ). blocksNamed s registers .start + blocksNamed s registers .count ≤ n) (sym long) (le-trans inside (few setup registers m long a)))
+    ∙ sym (ap (λ (b : Bool). cond (b && isNamed s registers block) 1 old) t))
+    (λ (t : flushMarks s registers ≡ false).
+    ap (λ (b : Bool). getD (cond b (marked dirty s registers) s .marks) block 0) t ∙ sym (ap (λ (b : Bool). cond (b && isNamed s registers block) 1 old) t))
+    (decided (flushMarks s registers))
 
 -- ---- calls that leave them
 stays : (s t : Session) → t .window ≡ s .window → t .first ≡ s .first → t .size ≡ s .size → t .marks ≡ s .marks → t .counts ≡ s .counts

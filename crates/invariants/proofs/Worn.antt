@@ -4,12 +4,13 @@ use mathlib.Core.Bool.{Bool, true, false, cond, not, _&&_, _||_, true≢false, f
 use mathlib.Core.List.{List, [], _∷_, _++_}
 use mathlib.Core.Logic.{_⊎_, inl, inr, ⊎-elim}
 use mathlib.Core.Option.{Option, none, some}
-use Prim.Native.Nat.{ℕ, suc, _+_, _*_, _≤_, _<_, min}
+use Prim.Native.Nat.{ℕ, zero, suc, _+_, _*_, _≤_, _<_, min}
 use native.Mathlib.Omega.{arith}
 use lib.Dec.{ltb, eqb}
 use lib.ListN.{length, getD, take, drop, replicate, length-replicate, drop-of-length-le}
 use borrow.Author.Tests.{lt-ltb, le-ltb}
 use Rattle.units.specs.Units.{blockBytes, toBytes, roundUp}
+use Rattle.buffers.specs.Ranges.{range}
 use Rattle.units.proofs.Cases.{decided, chosen}
 use Rattle.session.specs.declared.Session.{Session}
 use Rattle.session.specs.declared.Window.{Window}
@@ -39,16 +40,18 @@ use Rattle.mailbox.specs.Commands.{Outcome, numbered, numberedIn, marked, refus
 use Rattle.mailbox.specs.Table.{Command}
 use Rattle.mailbox.specs.Mediator.{commandAt, commandIn, reasonOf, reasonIn, answerTo, obeyed, mediate, response}
 use Rattle.mailbox.proofs.Ends.{codeOf, close-ends, flush-ends, open-ends, code-at, opened-code}
-use Rattle.mailbox.proofs.Mediating.{carried, each-command}
+use Rattle.mailbox.proofs.Mediating.{mediate-as, carried, each-command}
 use Rattle.invariants.specs.Codes.{isCreate}
 use Rattle.invariants.specs.Demand2.{atClose, flushedBy, flushedFor, failsAt, reached}
-use Rattle.invariants.specs.Worn.{MapRefused, meets, kept, failing, WriteErrorExactly, FailedAsSaid, StepsAsSaid, AllGood, Folded, GoodAsBefore, MeetsNone, FlushMended}
+use Rattle.invariants.specs.Memory.{CreateCopies}
+use Rattle.invariants.specs.Worn.{MapRefused, meets, kept, failing, WriteErrorExactly, FailedAsSaid, RefusedCreateAsSaid, placeOf, StepsAsSaid, AllGood, Folded, GoodAsBefore, MeetsNone, FlushMended}
 use Rattle.invariants.proofs.CarriedOut.{window-fits, window-room, fit, window-marks, done-reached, nothing, not-markable}
 use Rattle.invariants.proofs.Demand2.{argument-late, every-command}
 use Rattle.invariants.proofs.Kept.{flush-sound}
 use Rattle.invariants.proofs.MarksKept.{cleared-sound}
-use Rattle.invariants.proofs.Marks.{create-either, one-three}
+use Rattle.invariants.proofs.Marks.{create-either, one-three, three-one}
 use Rattle.invariants.proofs.Refused.{refusals-as-said}
+use Rattle.invariants.proofs.Succeeding.{accepted}
 use Rattle.invariants.proofs.Reach.{kept-is, meets-is, zeros-at, none-failed}
 
 -- ---- the map
@@ -97,11 +100,21 @@ module _ (s : Session) (flash worn memory : List ℕ) (e : sound (length flash) 
 abbrev Exactly : Bool → Outcome → Type 0
 Exactly b o = (b ≡ true → codeOf o ≡ 3) × (b ≡ false → codeOf o ≡ 3 → ⊥)
 
-is-three : (b : Bool) (o : Outcome) → b ≡ true → codeOf o ≡ 3 → Exactly b o
-is-three b o t c = (λ _. c, λ f. absurd (true≢false (sym t ∙ f)))
-
 not-three : (b : Bool) (o : Outcome) → b ≡ false → (codeOf o ≡ 3 → ⊥) → Exactly b o
 not-three b o f n = (λ t. absurd (true≢false (sym t ∙ f)), λ _. n)
+
+-- and else 1
+abbrev Either : Bool → Outcome → Type 0
+Either b o = (b ≡ true → codeOf o ≡ 3) × (b ≡ false → codeOf o ≡ 1)
+
+is-three : (b : Bool) (o : Outcome) → b ≡ true → codeOf o ≡ 3 → Either b o
+is-three b o t c = (λ _. c, λ f. absurd (true≢false (sym t ∙ f)))
+
+is-one : (b : Bool) (o : Outcome) → b ≡ false → codeOf o ≡ 1 → Either b o
+is-one b o f c = (λ t. absurd (true≢false (sym t ∙ f)), λ _. c)
+
+exactly : (b : Bool) (o : Outcome) → Either b o → Exactly b o
+exactly b o e = (e .0, λ f q. one-three (sym (e .1 f) ∙ q))
 
 two-three : _≡_ {A = ℕ} 2 3 → ⊥
 two-three q = omega arith
@@ -148,33 +161,33 @@ module _ (setup : Setup) (registers : List ℕ) (m : Machine) where
   abbrev Served : ℕ → Command → Type 0
   Served n c =
       commandOf registers ≡ n → reasonIn setup registers m ≡ Accepted → reasonOf c (soundIn setup m) registers m ≡ Accepted
-      → Exactly (failing (m .worn) (flushedBy n s registers)) (c .leaves setup registers next)
+      → Either (failing (m .worn) (flushedBy n s registers)) (c .leaves setup registers next)
 
   accepted-fine : reasonIn setup registers m ≡ Accepted → reasonIn setup registers m ≡ System → ⊥
   accepted-fine a q = let z : _≡_ {A = ℕ} 0 1 = cc (sym a ∙ q) in omega arith
 
-  served-create : (w : Window) → reasonIn setup registers m ≡ Accepted → Exactly (failing (m .worn) (atClose s)) (created w setup registers next)
+  served-create : (w : Window) → reasonIn setup registers m ≡ Accepted → Either (failing (m .worn) (atClose s)) (created w setup registers next)
   served-create w a =
       let b = failing (m .worn) (atClose s) in
       let is = close-fails (accepted-fine a) in
       let o = number 2 0 registers in
       let z = sizeFor (roundUp (length (m .flash))) (roundUp (length (m .memory))) o (hint s registers) in
-      open-ends (Exactly b) registers next w o z setup (λ f. is-three b (closing 3 registers next) (sym is ∙ f) refl)
-      (λ f. not-three b (opened w o z setup registers next) (sym is ∙ f) (λ q. one-three (sym (opened-code w o z setup registers next) ∙ q)))
+      open-ends (Either b) registers next w o z setup (λ f. is-three b (closing 3 registers next) (sym is ∙ f) refl)
+      (λ f. is-one b (opened w o z setup registers next) (sym is ∙ f) (opened-code w o z setup registers next))
 
-  served-close : reasonIn setup registers m ≡ Accepted → Exactly (failing (m .worn) (atClose s)) (closed registers next)
+  served-close : reasonIn setup registers m ≡ Accepted → Either (failing (m .worn) (atClose s)) (closed registers next)
   served-close a =
       let b = failing (m .worn) (atClose s) in
       let is = close-fails (accepted-fine a) in
-      close-ends (Exactly b) registers next (λ f. is-three b (stopped registers next) (sym is ∙ f) refl) (λ f. not-three b (closing 1 registers next) (sym is ∙ f) one-three)
+      close-ends (Either b) registers next (λ f. is-three b (stopped registers next) (sym is ∙ f) refl) (λ f. is-one b (closing 1 registers next) (sym is ∙ f) refl)
 
   served-flush : commandOf registers ≡ 8 → reasonIn setup registers m ≡ Accepted
-      → Exactly (failing (m .worn) (some (flushing s registers))) (flushedAll registers (holding adding m))
+      → Either (failing (m .worn) (some (flushing s registers))) (flushedAll registers (holding adding m))
   served-flush c a =
       let b = failing (m .worn) (some (flushing s registers)) in
       let is = flush-fails c a in
-      flush-ends (Exactly b) registers (holding adding m) (λ f. is-three b (stopped registers (holding adding m)) (sym is ∙ f) refl)
-      (λ f. not-three b (flushedThrough registers (holding adding m)) (sym is ∙ f) one-three)
+      flush-ends (Either b) registers (holding adding m) (λ f. is-three b (stopped registers (holding adding m)) (sym is ∙ f) refl)
+      (λ f. is-one b (flushedThrough registers (holding adding m)) (sym is ∙ f) refl)
 
   served-exactly : (n : ℕ) → Served n (commandAt n)
   served-exactly =
@@ -182,20 +195,20 @@ module _ (setup : Setup) (registers : List ℕ) (m : Machine) where
       let told = cond (ltb (s .version) 2) (bytesOf 4 (toBytes S) ++ bytesOf 4 blockBytes) (bytesOf 2 S ++ bytesOf 2 1) in
       let info = infoArguments (min (argument 0 registers) 2) (roundUp (length (m .memory))) (setup .timeout) in
       each-command Served
-      (λ c a r. no (resetAnswer (numbered s registers) registers .registers) one-three)
-      (λ c a r. no (reply registers 1 (padded info) (s .events)) (λ q. one-three (sym (code-at registers 1 info (s .events)) ∙ q)))
-      (λ c a r. no (reply registers 1 (padded told) (s .events)) (λ q. one-three (sym (code-at registers 1 told (s .events)) ∙ q)))
+      (λ c a r. no (resetAnswer (numbered s registers) registers .registers) refl)
+      (λ c a r. no (reply registers 1 (padded info) (s .events)) (code-at registers 1 info (s .events)))
+      (λ c a r. no (reply registers 1 (padded told) (s .events)) (code-at registers 1 told (s .events)))
       (λ c a r. served-create Read a)
       (λ c a r. served-close a)
       (λ c a r. served-create Write a)
-      (λ c a r. no (dirtyAnswer (numbered s registers) registers .registers) one-three)
+      (λ c a r. no (dirtyAnswer (numbered s registers) registers .registers) refl)
       (λ c a r. served-flush c a)
-      (λ c a r. no (ackAnswer (numbered s registers) registers .registers) one-three)
-      (λ c a r. no (dirtyAnswer (numbered s registers) registers .registers) one-three)
+      (λ c a r. no (ackAnswer (numbered s registers) registers .registers) refl)
+      (λ c a r. no (dirtyAnswer (numbered s registers) registers .registers) refl)
       (λ n c a r. absurd (false≢true (passed (soundIn setup m) s registers false Access false r .knows)))
     where
-      no : (shown : List ℕ) → (getD shown 13 0 ≡ 3 → ⊥) → (false ≡ true → getD shown 13 0 ≡ 3) × (false ≡ false → getD shown 13 0 ≡ 3 → ⊥)
-      no shown n = (λ t. absurd (false≢true t), λ _. n)
+      no : (shown : List ℕ) → getD shown 13 0 ≡ 1 → (false ≡ true → getD shown 13 0 ≡ 3) × (false ≡ false → getD shown 13 0 ≡ 1)
+      no shown c = (λ t. absurd (false≢true t), λ _. c)
 
   -- a refusal for an argument
   broken-create : (reasonIn setup registers m ≡ System → ⊥) → Exactly (failing (m .worn) (atClose s)) (closing (cond (flushWhole next .failed) 3 2) registers next)
@@ -203,7 +216,7 @@ module _ (setup : Setup) (registers : List ℕ) (m : Machine) where
       subst (λ (b : Bool). Exactly b (closing (cond (flushWhole next .failed) 3 2) registers next)) (close-fails fine) (by (flushWhole next .failed))
     where
       by : (b : Bool) → Exactly b (closing (cond b 3 2) registers next)
-      by true = is-three true (closing 3 registers next) refl refl
+      by true = exactly true (closing 3 registers next) (is-three true (closing 3 registers next) refl refl)
       by false = not-three false (closing 2 registers next) refl two-three
 
   abbrev Broken : ℕ → Command → Type 0
@@ -221,7 +234,7 @@ module _ (setup : Setup) (registers : List ℕ) (m : Machine) where
   answered : (r : Reason) → reasonIn setup registers m ≡ r
       → Exactly (failing (m .worn) (flushedFor r s registers)) (answerTo r (commandIn registers) setup registers m)
   unfolding answerTo
-  answered Accepted a = served-exactly (commandOf registers) refl a a
+  answered Accepted a = exactly (failing (m .worn) (flushedFor Accepted s registers)) (commandIn registers .leaves setup registers next) (served-exactly (commandOf registers) refl a a)
   answered System a = not-three false (refused 4 registers m) refl four-three
   answered Repeated a = not-three false (refused (codeFor (s .version) Repeated) registers next) refl (neither 2 8 (λ q. omega arith) (λ q. omega arith) (ltb (s .version) 2))
   answered Unknown a = not-three false (refused 2 registers next) refl two-three
@@ -230,8 +243,13 @@ module _ (setup : Setup) (registers : List ℕ) (m : Machine) where
   answered Argument a = broken-exactly (λ q. let z : _≡_ {A = ℕ} 0 1 = cc (sym a ∙ q) in omega arith) (commandOf registers) a
 
 pub write-error-exactly : WriteErrorExactly
-unfolding mediate obeyed
-write-error-exactly setup registers m = answered setup registers m (reasonIn setup registers m) refl
+unfolding mediate obeyed answerTo
+write-error-exactly setup registers m =
+    let e = answered setup registers m (reasonIn setup registers m) refl in (
+      e .0,
+      e .1,
+      λ a f. ap codeOf (mediate-as setup registers m Accepted a) ∙ served-exactly setup registers m (commandOf registers) refl a a .1 f,
+    )
 
 -- ---- what is left
 -- a flush fails only where no check refuses a command, or the last one a create
@@ -366,6 +384,20 @@ failed-as-said setup registers m three = (
       },
 )
 
+-- a create that is refused for its argument
+pub refused-create-as-said : RefusedCreateAsSaid
+refused-create-as-said setup registers m c a =
+    let left = refusals-as-said setup registers m .1 c a in
+    let code : _≡_ {A = ℕ} (cond (flushWhole (numberedIn registers m) .failed) 3 2) (cond (failing (m .worn) (atClose (m .session))) 3 2) =
+    ap (λ (b : Bool). cond b 3 2) (close-fails setup registers m (λ q. let z : _≡_ {A = ℕ} 0 1 = cc (sym a ∙ q) in omega arith)) in
+    let is = left ∙ ap (λ (n : ℕ). closing n registers (numberedIn registers m)) code in
+    record {
+      shown = ap (λ (o : Outcome). o .registers) is;
+      left = ap (λ (o : Outcome). o .machine .session) is;
+      memory-same = ap (λ (o : Outcome). o .machine .memory) is;
+      map-same = ap (λ (o : Outcome). o .machine .worn) is;
+    }
+
 -- ---- the steps
 awake : (s : Session) (flash worn memory : List ℕ) (done : ℕ) → sound (length flash) (length worn) (length memory) s ≡ true → s .suspended ≡ false
     → advanced (lent s flash worn memory) done ≡ record {
@@ -376,41 +408,66 @@ awake : (s : Session) (flash worn memory : List ℕ) (done : ℕ) → sound (len
 unfolding advanced
 awake s flash worn memory done e u = rw (e, u)
 
-module _ (m : Machine) (done : ℕ) (e : sound (length (m .flash)) (length (m .worn)) (length (m .memory)) (m .session) ≡ true) (u : m .session .suspended ≡ false) where
+asleep : (s : Session) (flash worn memory : List ℕ) (done : ℕ) → sound (length flash) (length worn) (length memory) s ≡ true → s .suspended ≡ true
+    → advanced (lent s flash worn memory) done ≡ record { code = 6; yes = false; flash = flash }
+unfolding advanced
+asleep s flash worn memory done e u = rw (e, u)
+
+unsound-step : (s : Session) (flash worn memory : List ℕ) (done : ℕ) → sound (length flash) (length worn) (length memory) s ≡ false
+    → advanced (lent s flash worn memory) done ≡ record { code = 4; yes = false; flash = flash }
+unfolding advanced
+unsound-step s flash worn memory done e = rw e
+
+-- the action after the first so many of the first n of a list is that of the list
+next-of : (n j : ℕ) (xs : List Action) → j < n → take 1 (drop j (take n xs)) ≡ take 1 (drop j xs)
+next-of zero j xs h = absurd (omega arith)
+next-of (suc n) zero [] h = refl
+next-of (suc n) zero (x ∷ xs) h = refl
+next-of (suc n) (suc j) [] h = refl
+next-of (suc n) (suc j) (x ∷ xs) h = next-of n j xs (omega arith)
+
+module _ (m : Machine) (e : sound (length (m .flash)) (length (m .worn)) (length (m .memory)) (m .session) ≡ true) where
   -- where the failing erase is, or the end
-  place-is : length (doneActions m) ≡ 17 * marksOf 1 (reached (m .worn) (m .session .first) (m .session .marks)) + marksOf 2 (reached (m .worn) (m .session .first) (m .session .marks))
+  pub place-is : length (doneActions m) ≡ placeOf m
   place-is =
       ap length (done-reached (m .session) (m .flash) (m .worn) (m .memory) e) ∙ flush-count (reached (m .worn) (m .session .first) (m .session .marks))
 
-  before-place : done < length (doneActions m) → (advanced m done .code ≡ 1) × (advanced m done .yes ≡ true)
-  before-place h =
-      let t = lt-ltb done (length (doneActions m)) h in
-      let is = awake (m .session) (m .flash) (m .worn) (m .memory) done e u in
-      (ap (λ (x : Advanced). x .code) is ∙ ap (λ (more : Bool). cond (not more && flushFails m) 3 1) t, ap (λ (x : Advanced). x .yes) is ∙ t)
-
-  from-place : length (doneActions m) ≤ done → {b : Bool} → flushFails m ≡ b → advanced m done ≡ record { code = cond b 3 1; yes = false; flash = m .flash }
-  from-place h {b} f =
-      let t = le-ltb done (length (doneActions m)) h in
-      let code : _≡_ {A = ℕ} (cond (not (hasNext m done) && flushFails m) 3 1) (cond b 3 1) =
-      ap (λ (more : Bool). cond (not more && flushFails m) 3 1) t ∙ ap (λ (fails : Bool). cond fails 3 1) f in
-      awake (m .session) (m .flash) (m .worn) (m .memory) done e u ∙ (λ i. record { code = code i; yes = t i; flash = unchanged i })
-    where
-      unchanged : performIn (m .session) (m .memory) (take 1 (drop done (doneActions m))) (m .flash) ≡ m .flash
-      unchanged =
-          ap (λ (xs : List Action). performIn (m .session) (m .memory) (take 1 xs) (m .flash)) (drop-of-length-le (doneActions m) h)
-          ∙ in-none (m .session) (m .flash) (window-fits (m .session) (m .flash) (m .worn) (m .memory) e) (m .memory) (window-room (m .session) (m .flash) (m .worn) (m .memory) e)
-
-  meets-fails : flushFails m ≡ meets (m .worn) (m .session .first) (m .session .marks)
+  pub meets-fails : flushFails m ≡ meets (m .worn) (m .session .first) (m .session .marks)
   meets-fails = sym (meets-is (m .worn) (m .session .first) (m .session .size) (m .session .marks) (window-marks (m .session) (m .flash) (m .worn) (m .memory) e))
 
+  module _ (done : ℕ) (u : m .session .suspended ≡ false) where
+    before-place : done < length (doneActions m)
+        → advanced m done ≡ record { code = 1; yes = true; flash = performIn (m .session) (m .memory) (take 1 (drop done (windowActions (m .session)))) (m .flash) }
+    before-place h =
+        let t = lt-ltb done (length (doneActions m)) h in
+        let code : _≡_ {A = ℕ} (cond (not (hasNext m done) && flushFails m) 3 1) 1 = ap (λ (more : Bool). cond (not more && flushFails m) 3 1) t in
+        let first = until-first (windowWorn (m .session) (m .worn)) (windowActions (m .session)) in
+        let flash = ap (λ (xs : List Action). performIn (m .session) (m .memory) (take 1 (drop done xs)) (m .flash)) first
+        ∙ ap (λ (xs : List Action). performIn (m .session) (m .memory) xs (m .flash)) (next-of (length (doneActions m)) done (windowActions (m .session)) h) in
+        awake (m .session) (m .flash) (m .worn) (m .memory) done e u ∙ (λ i. record { code = code i; yes = t i; flash = flash i })
+
+    from-place : length (doneActions m) ≤ done
+        → advanced m done ≡ record { code = cond (meets (m .worn) (m .session .first) (m .session .marks)) 3 1; yes = false; flash = m .flash }
+    from-place h =
+        let t = le-ltb done (length (doneActions m)) h in
+        let code : _≡_ {A = ℕ} (cond (not (hasNext m done) && flushFails m) 3 1) (cond (meets (m .worn) (m .session .first) (m .session .marks)) 3 1) =
+        ap (λ (more : Bool). cond (not more && flushFails m) 3 1) t ∙ ap (λ (fails : Bool). cond fails 3 1) meets-fails in
+        awake (m .session) (m .flash) (m .worn) (m .memory) done e u ∙ (λ i. record { code = code i; yes = t i; flash = unchanged i })
+      where
+        unchanged : performIn (m .session) (m .memory) (take 1 (drop done (doneActions m))) (m .flash) ≡ m .flash
+        unchanged =
+            ap (λ (xs : List Action). performIn (m .session) (m .memory) (take 1 xs) (m .flash)) (drop-of-length-le (doneActions m) h)
+            ∙ in-none (m .session) (m .flash) (window-fits (m .session) (m .flash) (m .worn) (m .memory) e) (m .memory) (window-room (m .session) (m .flash) (m .worn) (m .memory) e)
+
 pub steps-as-said : StepsAsSaid
-steps-as-said setup m done sounds u =
-    let e = measured setup (length (m .flash)) (length (m .worn)) (length (m .memory)) (m .session) sounds .sound in
-    let place = place-is m done e u in (
-      λ h. before-place m done e u (subst (λ (n : ℕ). done < n) (sym place) h),
-      λ h f. from-place m done e u (subst (λ (n : ℕ). n ≤ done) (sym place) h) (meets-fails m done e u ∙ f),
-      λ h f. from-place m done e u (subst (λ (n : ℕ). n ≤ done) (sym place) h) (meets-fails m done e u ∙ f),
-    )
+steps-as-said m done = (
+  λ e. unsound-step (m .session) (m .flash) (m .worn) (m .memory) done e,
+  λ e. (
+    λ u. asleep (m .session) (m .flash) (m .worn) (m .memory) done e u,
+    λ u h. before-place m e done u (subst (λ (n : ℕ). done < n) (sym (place-is m e)) h),
+    λ u h. from-place m e done u (subst (λ (n : ℕ). n ≤ done) (sym (place-is m e)) h),
+  ),
+)
 
 -- ---- with every block good
 good-meets : (worn : List ℕ) → AllGood worn → (c : ℕ) (marks : List ℕ) → meets worn c marks ≡ false
@@ -619,3 +676,32 @@ flush-mended setup registers later m worn three kind good c a same =
     let ends = later-ends setup registers later m worn (numbered (m .session) registers) sounds (left .0) (left .1) good c a same in
     (ends .0, ends .1 ∙ sym (zeroed-close setup registers m five accepted)))
     kind
+
+-- ---- what a create copies
+create-copied : (w : Window) (setup : Setup) (registers : List ℕ) (m : Machine) → codeOf (created w setup registers m) ≡ 1
+    → let after = created w setup registers m .machine in
+    after .memory ≡ range (toBytes (after .session .first)) (toBytes (after .session .size)) (after .flash) ++ drop (length (range (toBytes (after .session .first)) (toBytes (after .session .size)) (after .flash))) (m .memory)
+create-copied w setup registers m =
+    let o = number 2 0 registers in
+    let z = sizeFor (roundUp (length (m .flash))) (roundUp (length (m .memory))) o (hint (m .session) registers) in
+    let new = range (toBytes o) (toBytes z) (flushWhole m .flash) in
+    let front : 0 + length new ≡ length new = omega arith in
+    open-ends
+    (λ (x : Outcome). codeOf x ≡ 1
+    → x .machine .memory ≡ range (toBytes (x .machine .session .first)) (toBytes (x .machine .session .size)) (x .machine .flash) ++ drop (length (range (toBytes (x .machine .session .first)) (toBytes (x .machine .session .size)) (x .machine .flash))) (m .memory))
+    registers m w o z setup (λ _ q. absurd (three-one q)) (λ _ _. ap (λ (n : ℕ). new ++ drop n (m .memory)) front)
+
+pub create-copies : CreateCopies
+unfolding commandAt
+create-copies setup registers m c = (
+  λ one.
+      let a = accepted setup (m .session) registers (m .flash) (m .worn) (m .memory) one in
+      create-either (λ _. copied (mediate setup registers m)) (commandOf registers) c
+      (λ e. let left = carried setup registers m 4 e a in subst copied (sym left) (create-copied Read setup registers (numberedIn registers m) (sym (ap codeOf left) ∙ one)))
+      (λ e. let left = carried setup registers m 6 e a in subst copied (sym left) (create-copied Write setup registers (numberedIn registers m) (sym (ap codeOf left) ∙ one))),
+  λ three. ap (λ (o : Outcome). o .machine .memory) (create-left setup registers m three c),
+)
+  where
+    copied : Outcome → Type 0
+    copied x =
+        x .machine .memory ≡ range (toBytes (x .machine .session .first)) (toBytes (x .machine .session .size)) (x .machine .flash) ++ drop (length (range (toBytes (x .machine .session .first)) (toBytes (x .machine .session .size)) (x .machine .flash))) (m .memory)

@@ -25,7 +25,7 @@ abbrev pub Allowed : ℕ → ℕ → Type 0
 Allowed version flags = (version < 2) ⊎ (flags ≤ 1)
 
 -- "PARAM_ERROR for other values": 2, and nothing but the previous number is changed. With allowed flags the window is closed: `closed`,
--- of which `Demand2` has the flash and the chip actions, and `WornAsSaid` what is left where an erase fails
+-- of which `Demand2` has the flash and the chip actions, `WriteErrorExactly` the response, and `FailedAsSaid` what is left where an erase fails
 abbrev pub FlagsAsSaid : Type 0
 FlagsAsSaid =
     (setup : Setup) (registers : List ℕ) (m : Machine) → ReachesFlags setup registers m

@@ -2,7 +2,7 @@
 use mathlib.Core.Path.{_≡_}
 use mathlib.Core.Bool.{true}
 use mathlib.Core.List.{List}
-use Prim.Native.Nat.{ℕ, _+_, _≤_}
+use Prim.Native.Nat.{ℕ, _+_, _*_, _≤_}
 use lib.ListN.{length}
 use Rattle.units.specs.Units.{roundUp}
 use Rattle.session.specs.declared.Session.{Session}
@@ -22,6 +22,11 @@ abbrev pub FreshSound : Type 0
 FreshSound =
     (setup : Setup) (flash worn memory : ℕ) → sizesSound flash worn memory ≡ true → setup .lpc + roundUp memory ≤ 65536
     → soundAt setup flash worn memory fresh ≡ true
+
+-- that is, with the papers' numbers: "S .. is 1 to 65,535 blocks. C .. is 1 to 64 blocks", of 4,096 bytes each, a map of S bytes, and "B + C <= 65,536"
+abbrev pub FreshAsSaid : Type 0
+FreshAsSaid =
+    (setup : Setup) (S C : ℕ) → 1 ≤ S → S ≤ 65535 → 1 ≤ C → C ≤ 64 → setup .lpc + C ≤ 65536 → soundAt setup (4096 * S) S (4096 * C) fresh ≡ true
 
 -- any content of the registers, refused or not
 abbrev pub CommandKeeps : Type 0
@@ -43,7 +48,7 @@ AccessKeeps =
     × (soundAt setup flash worn memory (resumed s .session) ≡ true)
     × (soundAt setup flash worn memory (resumedChanged s .session) ≡ true)
 
--- what a command flushes is sound, so that the flush always does its actions: the window that a close or a create closes, a create also where it is then
+-- what a command flushes is sound, so that the flush always does its actions, up to the first that fails: the window that a close or a create closes, a create also where it is then
 -- refused for its argument, and that of an accepted FLUSH with its own marks
 abbrev pub FlushSound : Type 0
 FlushSound =

@@ -1,7 +1,7 @@
 -- What every command, suspend and resume make of the window and of the marks, with the papers' own numbers: document 01, "Commands". How marks are dropped is
 -- said in Pending.antt, with their numbers. Proved in proofs/Marks.antt.
 use mathlib.Core.Path.{_≡_}
-use mathlib.Core.Bool.{Bool, true, false, cond, _&&_, _||_}
+use mathlib.Core.Bool.{Bool, true, false, cond, not, _&&_, _||_}
 use mathlib.Core.List.{List}
 use mathlib.Core.Logic.{_⊎_}
 use Prim.Native.Nat.{ℕ, _+_, _-_}
@@ -14,6 +14,7 @@ use Rattle.session.specs.Machine.{Setup, Machine}
 use Rattle.session.specs.Suspension.{suspended, resumed}
 use Rattle.refusals.specs.declared.Reason.the-variants.{Accepted}
 use Rattle.registers.specs.Registers.{commandOf, number}
+use Rattle.mailbox.specs.Commands.{flushing}
 use Rattle.mailbox.specs.Mediator.{reasonIn, mediate, response}
 use Rattle.invariants.specs.Codes.{isCreate}
 use Rattle.invariants.specs.Pending.{drops}
@@ -35,6 +36,14 @@ MarksAsSaid =
     → getD (mediate setup registers m .machine .session .marks) block 0 ≡ cond (isNamed (m .session) registers block) 1 (getD (m .session .marks) block 0))
     × (commandOf registers ≡ 10
     → getD (mediate setup registers m .machine .session .marks) block 0 ≡ cond (isNamed (m .session) registers block) 2 (getD (m .session .marks) block 0))
+
+-- the marks that a FLUSH (8) carries out: at version 1, "L = 0 adds no mark", else the named blocks are dirty, "marked as in MARK_DIRTY"; at version 2 those that
+-- there are
+abbrev pub FlushMarksAsSaid : Type 0
+FlushMarksAsSaid =
+    (setup : Setup) (registers : List ℕ) (m : Machine) → length (m .session .marks) ≡ 64 → reasonIn setup registers m ≡ Accepted → commandOf registers ≡ 8 → (block : ℕ)
+    → getD (flushing (m .session) registers .marks) block 0
+    ≡ cond ((ltb (m .session .version) 2 && not (eqb (number 4 2 registers) 0)) && isNamed (m .session) registers block) 1 (getD (m .session .marks) block 0)
 
 -- a session with the window of another, and with its marks and their kept numbers
 pub record SameWindow (s t : Session) : Type 0 where

@@ -1,6 +1,6 @@
 -- What a refusal leaves: document 01, below the table of "Registers". It is said of the machine and of each register, and not by the mediator's own `refused`;
--- the response codes are those of `codeFor`, and what a create that is refused for its argument leaves is `closingFirst`, of which
--- `WornAsSaid` has the response. Proved in proofs/Refused.antt.
+-- the response codes are those of `codeFor`, and what a create that is refused for its argument leaves is `closingFirst`, which
+-- `RefusedCreateAsSaid` says in other words. Proved in proofs/Refused.antt.
 use mathlib.Core.Path.{_≡_}
 use mathlib.Core.Bool.{true}
 use mathlib.Core.List.{List, [], _∷_, _++_}

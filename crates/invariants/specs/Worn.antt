@@ -6,22 +6,22 @@ use mathlib.Core.List.{List, [], _∷_, _++_}
 use mathlib.Core.Logic.{_⊎_}
 use mathlib.Core.Option.{Option, none, some}
 use Prim.Native.Nat.{ℕ, suc, _+_, _*_, _≤_, _<_}
-use lib.ListN.{length, getD, replicate}
+use lib.ListN.{length, getD, take, drop, replicate}
 use Rattle.units.specs.Units.{roundUp}
 use Rattle.session.specs.declared.Session.{Session}
 use Rattle.session.specs.declared.Previous.the-variants.{Number}
 use Rattle.session.specs.Machine.{Setup, Machine, wearing}
 use Rattle.session.specs.Marks.{isMarked, marksOf}
 use Rattle.session.specs.Record.{withPrevious, withMarks, dropWindow}
-use Rattle.soundness.specs.Soundness.{soundIn}
+use Rattle.soundness.specs.Soundness.{sound}
 use Rattle.flush.specs.Window.{windowActions, performIn, advanced}
-use Rattle.refusals.specs.declared.Reason.the-variants.{Accepted, System}
+use Rattle.refusals.specs.declared.Reason.the-variants.{Accepted, System, Argument}
 use Rattle.registers.specs.Registers.{commandOf, sequenceOf}
 use Rattle.marklist.specs.MarkList.{listCode, listedIn}
 use Rattle.mailbox.specs.Commands.{flushing}
 use Rattle.mailbox.specs.Mediator.{reasonIn, mediate, response}
 use Rattle.invariants.specs.Codes.{isCreate}
-use Rattle.invariants.specs.Demand2.{flushedFor, failsAt, reached}
+use Rattle.invariants.specs.Demand2.{atClose, flushedFor, failsAt, reached}
 
 -- ---- the map
 
@@ -51,42 +51,60 @@ failing worn none = false
 failing worn (some s) = meets worn (s .first) (s .marks)
 
 -- 3 is answered exactly where it does, by every command, at every version, "after the argument check, but in a create before it": `flushedFor` has whose marks a
--- command carries out, by the check that refuses it
+-- command carries out, by the check that refuses it. "SUCCESS otherwise": 1 where no check refuses a command and its flush, if any, does not fail
 abbrev pub WriteErrorExactly : Type 0
 WriteErrorExactly =
     (setup : Setup) (registers : List ℕ) (m : Machine)
     → (failing (m .worn) (flushedFor (reasonIn setup registers m) (m .session) registers) ≡ true → response setup registers m ≡ 3)
     × (failing (m .worn) (flushedFor (reasonIn setup registers m) (m .session) registers) ≡ false → response setup registers m ≡ 3 → ⊥)
+    × (reasonIn setup registers m ≡ Accepted → failing (m .worn) (flushedFor Accepted (m .session) registers) ≡ false → response setup registers m ≡ 1)
 
--- what is left then: zero arguments, registers 0, 1 and 14 as received, 15 the event byte; this session, with the number as the previous one; the window memory
--- and the map as they were
-pub record Failed (setup : Setup) (registers : List ℕ) (m : Machine) (s : Session) : Type 0 where
+-- an answer with this code that leaves this session: zero arguments, registers 0, 1 and 14 as received, 15 the event byte; the number as the previous one; the
+-- window memory and the map as they were
+pub record Leaving (setup : Setup) (registers : List ℕ) (m : Machine) (code : ℕ) (s : Session) : Type 0 where
   pub shown : mediate setup registers m .registers
-      ≡ commandOf registers ∷ sequenceOf registers ∷ (replicate 11 0 ++ (3 ∷ getD registers 14 0 ∷ m .session .events ∷ []))
+      ≡ commandOf registers ∷ sequenceOf registers ∷ (replicate 11 0 ++ (code ∷ getD registers 14 0 ∷ m .session .events ∷ []))
   pub left : mediate setup registers m .machine .session ≡ withPrevious (Number (sequenceOf registers)) s
   pub memory-same : mediate setup registers m .machine .memory ≡ m .memory
   pub map-same : mediate setup registers m .machine .worn ≡ m .worn
 
--- "FLUSH (8) and CLOSE_WINDOW (5) then answer WRITE_ERROR and the window stays active", with the marks that are kept and their numbers; FLUSH's own marks of
--- version 1 are among them. "a create does too and leaves no window", also where its block is past the flash
+-- FLUSH (8) and CLOSE_WINDOW (5) "then answer WRITE_ERROR and the window stays active", with the marks that are kept and their numbers; FLUSH's own marks of
+-- version 1 are among them (`FlushMarksAsSaid`). "a create does too and leaves no window", also where its block is past the flash
 abbrev pub FailedAsSaid : Type 0
 FailedAsSaid =
     (setup : Setup) (registers : List ℕ) (m : Machine) → response setup registers m ≡ 3
     → (commandOf registers ≡ 8
-    → Failed setup registers m (withMarks (kept (m .worn) (m .session .first) (flushing (m .session) registers .marks)) (m .session)))
-    × (commandOf registers ≡ 5 → Failed setup registers m (withMarks (kept (m .worn) (m .session .first) (m .session .marks)) (m .session)))
-    × (isCreate (commandOf registers) ≡ true → Failed setup registers m (dropWindow (m .session)))
+    → Leaving setup registers m 3 (withMarks (kept (m .worn) (m .session .first) (flushing (m .session) registers .marks)) (m .session)))
+    × (commandOf registers ≡ 5 → Leaving setup registers m 3 (withMarks (kept (m .worn) (m .session .first) (m .session .marks)) (m .session)))
+    × (isCreate (commandOf registers) ≡ true → Leaving setup registers m 3 (dropWindow (m .session)))
 
--- the steps: actions are done as ever up to the failing erase, whose place is the number of actions of the marks that are carried out. "The stepped form answers 3
--- from that erase on, changing nothing"; without one it goes to the end
+-- a create (4, 6) that is refused for its argument "has already closed and flushed the old window", and "WRITE_ERROR (3) comes .. before it"; what became of the
+-- flash, and the number of actions, is said in Demand2.antt
+abbrev pub RefusedCreateAsSaid : Type 0
+RefusedCreateAsSaid =
+    (setup : Setup) (registers : List ℕ) (m : Machine) → isCreate (commandOf registers) ≡ true → reasonIn setup registers m ≡ Argument
+    → Leaving setup registers m (cond (failing (m .worn) (atClose (m .session))) 3 2) (dropWindow (m .session))
+
+-- ---- the steps
+
+-- how many actions come before the erase that fails: those of the marks that are carried out
+abbrev pub placeOf : Machine → ℕ
+placeOf m =
+    let marks = reached (m .worn) (m .session .first) (m .session .marks) in
+    17 * marksOf 1 marks + marksOf 2 marks
+
+-- a step, whatever the number of actions done: "4 for what the table calls SYSTEM_ERROR, then 6 when suspended, and changes nothing"; up to the failing erase the
+-- action of its number is done, and no other; "The stepped form answers 3 from that erase on, changing nothing", and without one 1 past the end
 abbrev pub StepsAsSaid : Type 0
 StepsAsSaid =
-    (setup : Setup) (m : Machine) (done : ℕ) → soundIn setup m ≡ true → m .session .suspended ≡ false
-    → let marks = reached (m .worn) (m .session .first) (m .session .marks) in
-    let place = 17 * marksOf 1 marks + marksOf 2 marks in
-    (done < place → (advanced m done .code ≡ 1) × (advanced m done .yes ≡ true))
-    × (place ≤ done → meets (m .worn) (m .session .first) (m .session .marks) ≡ true → advanced m done ≡ record { code = 3; yes = false; flash = m .flash })
-    × (place ≤ done → meets (m .worn) (m .session .first) (m .session .marks) ≡ false → advanced m done ≡ record { code = 1; yes = false; flash = m .flash })
+    (m : Machine) (done : ℕ)
+    → (sound (length (m .flash)) (length (m .worn)) (length (m .memory)) (m .session) ≡ false → advanced m done ≡ record { code = 4; yes = false; flash = m .flash })
+    × (sound (length (m .flash)) (length (m .worn)) (length (m .memory)) (m .session) ≡ true
+    → (m .session .suspended ≡ true → advanced m done ≡ record { code = 6; yes = false; flash = m .flash })
+    × (m .session .suspended ≡ false → done < placeOf m
+    → advanced m done ≡ record { code = 1; yes = true; flash = performIn (m .session) (m .memory) (take 1 (drop done (windowActions (m .session)))) (m .flash) })
+    × (m .session .suspended ≡ false → placeOf m ≤ done
+    → advanced m done ≡ record { code = cond (meets (m .worn) (m .session .first) (m .session .marks)) 3 1; yes = false; flash = m .flash }))
 
 -- ---- with every block good
 

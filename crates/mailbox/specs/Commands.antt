@@ -20,7 +20,7 @@ use Rattle.mailbox.specs.declared.Answer.{Answer}
 use Rattle.registers.specs.Registers.{sequenceOf, argument, number, bytesOf, padded, reply}
 use Rattle.refusals.specs.Refusals.{blocksNamed, flushMarks}
 
--- what a call leaves: the session and both buffers, the registers and the number of chip actions
+-- what a call leaves: the session, both buffers and the map, the registers and the number of chip actions
 pub record Outcome : Type 0 where
   pub machine : Machine
   pub registers : List ℕ
@@ -108,7 +108,8 @@ abbrev pub closing : ℕ → List ℕ → Machine → Outcome
 closing code registers m =
     outcome (answered (dropWindow (m .session)) registers code [] (flushWhole m .actions)) (flushWhole m .flash) (m .worn) (m .memory)
 
--- "WRITE_ERROR (3) comes after the argument check, but in a create before it" (02, Ticket 8): the code of a create that is refused for its argument
+-- what a create with a bad argument leaves: the old window is closed all the same, and a flush that failed (3) is told instead of the argument: "WRITE_ERROR (3)
+-- comes after the argument check, but in a create before it" (02, Ticket 8)
 abbrev pub closingFirst : ℕ → List ℕ → Machine → Outcome
 closingFirst code registers m = closing (cond (flushWhole m .failed) 3 code) registers m
 
@@ -124,7 +125,7 @@ opened window o size setup registers m =
     (flushWhole m .flash) (m .worn)
     (replace 0 (range (toBytes o) (toBytes size) (flushWhole m .flash)) (m .memory))
 
--- "a create does too", answer WRITE_ERROR where the flush fails, "and leaves no window" (02, Ticket 8)
+-- where the old window's flush fails a create answers WRITE_ERROR "and leaves no window" (02, Ticket 8); else it opens one
 abbrev pub opening : Window → ℕ → ℕ → Setup → List ℕ → Machine → Outcome
 opening window o size setup registers m = cond (flushWhole m .failed) (closing 3 registers m) (opened window o size setup registers m)
 

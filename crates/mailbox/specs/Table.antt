@@ -50,7 +50,8 @@ abbrev pub getFlashInfo : Command
 getFlashInfo =
     record { code = 3; known = from 1; needs = Access; broken = neverBroken; whenBroken = refused; leaves = λ setup. flashInformed }
 
--- a create of either kind: "a create refused for its argument has already closed and flushed the old window", and has told where that failed
+-- a create of either kind: "a create refused for its argument has already closed and flushed the old window", and answers WRITE_ERROR if
+-- that flush failed
 abbrev pub create : ℕ → Window → Command
 create code window =
     record { code = code; known = from 1; needs = Access; broken = outsideFlash; whenBroken = closingFirst; leaves = created window }

@@ -19,13 +19,15 @@ use Rattle.session.specs.Suspension.{resumed}
 use Rattle.soundness.proofs.Access.{resumed-sound}
 use Rattle.soundness.proofs.Facts.{part-within, measured}
 use Rattle.flush.specs.Actions.{flushActions}
-use Rattle.flush.specs.Window.{windowActions, performIn}
+use Rattle.flush.specs.Window.{windowActions, performIn, windowWorn}
+use Rattle.flush.proofs.Failing.{until-all}
 use Rattle.flush.proofs.Whole.{in-same, after-cut}
 use Rattle.registers.specs.Registers.{argument, number}
 use Rattle.mailbox.specs.Commands.{numbered, marked}
 use Rattle.refusals.specs.Refusals.{flushMarks}
 use Rattle.mailbox.specs.Runs.{send}
 use Rattle.invariants.proofs.Reach.{zeros-meet-none, none-fails}
+use Rattle.invariants.proofs.Worn.{place-is, meets-fails}
 use Rattle.invariants.proofs.Runs.{run-keeps}
 use Rattle.recovery.specs.Cut.{FirstCall, cut, start, Kept, AtCut}
 use Rattle.recovery.specs.Demand.{Demand3}
@@ -109,6 +111,9 @@ module _ (setup : Setup) (s : Session) (flash worn memory : List ℕ) (sounds : 
     at-cut =
         record {
           answered = says s flash worn memory e w list (start (lent s flash worn memory)) (begins s flash worn memory e w);
+          reaches = place-is (lent s flash worn memory) e;
+          stops = meets-fails (lent s flash worn memory) e;
+          through = λ none. ap length (until-all (windowWorn s worn) (windowActions s) none);
           as-run = λ setup. machine-after s flash worn memory e w setup list (start (lent s flash worn memory));
           blocks = block-at s flash worn memory e w (cut (lent s flash worn memory) list) r;
           finished = finished-at s flash worn memory e w (cut (lent s flash worn memory) list) r;

@@ -14,6 +14,7 @@ use Rattle.session.specs.Suspension.{suspended, resumed}
 use Rattle.flush.specs.Cut.{passed, ahead, progress, blockAt, leaves}
 use Rattle.flush.specs.Window.{windowActions, windowPart, partEnd, doneActions, flushFails, advanced}
 use Rattle.mailbox.specs.Runs as runs
+use Rattle.invariants.specs.Worn.{placeOf, meets}
 
 -- "any list of flush steps, suspends and resumes without changed flash"
 pub data FirstCall : Type 0 where
@@ -29,19 +30,20 @@ pub data Said : Type 0 where
   stepped : ℕ → Bool → Said
   told : Bool → Said
 
--- "A count j starts at 0; a step while not suspended adds 1 if j < N": up to N, or up to the erase that fails, "where 01's count j stays" (02, Ticket 8)
+-- "A count j starts at 0; a step while not suspended adds 1 if j < N". It stops at N, or before an erase that fails, "where 01's count j stays" (02, Ticket 8):
+-- `reach` is how far it comes
 abbrev pub counted : ℕ → Bool → ℕ → ℕ
-counted most isSuspended j = cond (not isSuspended && ltb j most) (j + 1) j
+counted reach isSuspended j = cond (not isSuspended && ltb j reach) (j + 1) j
 
 -- one call: "A step is given j". A step changes only the flash, suspend and resume only the session
 abbrev pub after : ℕ → FirstCall → State → State
-after most step s =
+after reach step s =
     record {
       machine = lent (s .machine .session) (advanced (s .machine) (s .count) .flash) (s .machine .worn) (s .machine .memory);
-      count = counted most (s .machine .session .suspended) (s .count);
+      count = counted reach (s .machine .session .suspended) (s .count);
     }
-after most suspend s = record { machine = holding (suspended (s .machine .session) .session) (s .machine); count = s .count }
-after most resume s = record { machine = holding (resumed (s .machine .session) .session) (s .machine); count = s .count }
+after reach suspend s = record { machine = holding (suspended (s .machine .session) .session) (s .machine); count = s .count }
+after reach resume s = record { machine = holding (resumed (s .machine .session) .session) (s .machine); count = s .count }
 
 -- its answer
 abbrev pub answer : FirstCall → State → Said
@@ -51,25 +53,25 @@ answer resume s = told (resumed (s .machine .session) .done)
 
 -- a list of them: "every call gets what the one before left"
 abbrev pub afterAll : ℕ → List FirstCall → State → State
-afterAll most [] s = s
-afterAll most (e ∷ list) s = afterAll most list (after most e s)
+afterAll reach [] s = s
+afterAll reach (e ∷ list) s = afterAll reach list (after reach e s)
 
 -- and its answers
 abbrev pub answers : ℕ → List FirstCall → State → List Said
-answers most [] s = []
-answers most (e ∷ list) s = answer e s ∷ answers most list (after most e s)
+answers reach [] s = []
+answers reach (e ∷ list) s = answer e s ∷ answers reach list (after reach e s)
 
 -- the answers that the papers give. "A step .. answers 6 while suspended, otherwise 1, with yes exactly if it adds"; where an erase fails the count stays
 -- before it, and steps there "answer 3, or 6 when suspended" (02, Ticket 8)
 abbrev pub stepSaid : ℕ → Bool → Bool → ℕ → Said
-stepSaid most fails isSuspended j = cond isSuspended (stepped 6 false) (cond (ltb j most) (stepped 1 true) (stepped (cond fails 3 1) false))
+stepSaid reach fails isSuspended j = cond isSuspended (stepped 6 false) (cond (ltb j reach) (stepped 1 true) (stepped (cond fails 3 1) false))
 
 -- "Suspending twice, or resuming when not suspended, .. answers no; otherwise they answer yes"
 abbrev pub expected : ℕ → Bool → List FirstCall → Bool → ℕ → List Said
-expected most fails [] isSuspended j = []
-expected most fails (step ∷ list) isSuspended j = stepSaid most fails isSuspended j ∷ expected most fails list isSuspended (counted most isSuspended j)
-expected most fails (suspend ∷ list) isSuspended j = told (not isSuspended) ∷ expected most fails list true j
-expected most fails (resume ∷ list) isSuspended j = told isSuspended ∷ expected most fails list false j
+expected reach fails [] isSuspended j = []
+expected reach fails (step ∷ list) isSuspended j = stepSaid reach fails isSuspended j ∷ expected reach fails list isSuspended (counted reach isSuspended j)
+expected reach fails (suspend ∷ list) isSuspended j = told (not isSuspended) ∷ expected reach fails list true j
+expected reach fails (resume ∷ list) isSuspended j = told isSuspended ∷ expected reach fails list false j
 
 -- the session as the suspends and resumes of a list leave it: the steps leave it alone
 abbrev pub accessAfter : List FirstCall → Session → Session
@@ -82,7 +84,7 @@ accessAfter (resume ∷ list) s = accessAfter list (resumed s .session)
 abbrev pub actionsOf : Session → ℕ
 actionsOf s = length (windowActions s)
 
--- how many are done before an erase fails: all N where none does
+-- how many of them are done before an erase fails: all N where none does
 abbrev pub reachOf : Machine → ℕ
 reachOf m = length (doneActions m)
 
@@ -101,8 +103,8 @@ callFor suspend j = runs.suspend
 callFor resume j = runs.resume
 
 abbrev pub callsOf : ℕ → List FirstCall → State → List runs.Call
-callsOf most [] s = []
-callsOf most (e ∷ list) s = callFor e (s .count) ∷ callsOf most list (after most e s)
+callsOf reach [] s = []
+callsOf reach (e ∷ list) s = callFor e (s .count) ∷ callsOf reach list (after reach e s)
 
 -- the byte of the flash at x lies in a marked block
 abbrev pub inMarked : Session → ℕ → Bool
@@ -118,6 +120,10 @@ Kept s t = t ≡ withAccess (t .suspended) (t .events) s
 pub record AtCut (m : Machine) (list : List FirstCall) : Type 0 where
   -- "For every such list the answers are those of document 01", with Ticket 8's
   pub answered : answers (reachOf m) list (start m) ≡ expected (reachOf m) (flushFails m) list (m .session .suspended) 0
+  -- where the count stops: at the first worn block that is marked, and at N where there is none
+  pub reaches : reachOf m ≡ placeOf m
+  pub stops : flushFails m ≡ meets (m .worn) (m .session .first) (m .session .marks)
+  pub through : flushFails m ≡ false → reachOf m ≡ actionsOf (m .session)
   -- "every call gets what the one before left": the machine is that of a run of these calls
   pub as-run : (setup : Setup) → cut m list .machine ≡ runs.calledAll setup (callsOf (reachOf m) list (start m)) m
   -- "It holds what its actions among the first j make of its old bytes"

@@ -1,4 +1,4 @@
--- Demand 3, whole, as it is proved: document 00, and document 01, "Chip actions". Its proof is `demand-3`, in proofs/Demand.antt.
+-- Demand 3, whole, as it is proved: document 00, document 01, "Chip actions", and 02, Ticket 8. Its proof is `demand-3`, in proofs/Demand.antt.
 use mathlib.Core.Path.{_≡_}
 use mathlib.Core.Bool.{true}
 use mathlib.Core.List.{List}

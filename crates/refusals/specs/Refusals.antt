@@ -128,7 +128,8 @@ unfoldable pub reasonFor : Bool → Session → List ℕ → Bool → Needs → 
 reasonFor sound s registers known needs broken = firstOf (table sound s registers known needs broken)
 
 -- the codes: 4 SYSTEM_ERROR, 8 SEQ_ERROR, 2 PARAM_ERROR, 6 BUSY, 7 WINDOW_ERROR, 1 SUCCESS; at versions 0 and 1
--- code 2 stands for 8 and 5 for 6, at version 1 code 2 for 7 (version 0 does not know those commands)
+-- code 2 stands for 8 and 5 for 6, at version 1 code 2 for 7 (version 0 does not know those commands). WRITE_ERROR (3) is told after a flush, in
+-- mailbox/specs/Commands.antt
 abbrev pub codeFor : ℕ → Reason → ℕ
 codeFor version Accepted = 1
 codeFor version System = 4
