@@ -86,9 +86,9 @@ pub struct Suspended {
 }
 
 #[repr(C)]
-struct Stepped {
-    code: u8,
-    acted: u8,
+pub struct Stepped {
+    pub code: u8,
+    pub acted: u8,
 }
 
 #[repr(C)]
@@ -101,7 +101,7 @@ pub struct Work {
 
 extern "C" {
     pub fn hiomap_fresh() -> Record;
-    fn hiomap_command(record: *mut Record, registers: *mut [u8; 16], lpc: u16, timeout: u16, flash: Bytes, memory: Bytes) -> u32;
+    pub fn hiomap_command(record: *mut Record, registers: *mut [u8; 16], lpc: u16, timeout: u16, flash: Bytes, worn: Bytes, memory: Bytes) -> u32;
     pub fn hiomap_message(
         record: *mut Record,
         netfn: u8,
@@ -110,13 +110,14 @@ extern "C" {
         lpc: u16,
         timeout: u16,
         flash: Bytes,
+        worn: Bytes,
         memory: Bytes,
     ) -> MessageReply;
-    fn hiomap_mark_list(record: *mut Record, list: Numbers, lpc: u16, timeout: u16, flash: usize, memory: usize) -> ListReply;
+    fn hiomap_mark_list(record: *mut Record, list: Numbers, lpc: u16, timeout: u16, flash: usize, worn: usize, memory: usize) -> ListReply;
     pub fn hiomap_suspend(record: Record) -> Suspended;
     pub fn hiomap_resume(record: Record) -> Suspended;
     pub fn hiomap_resume_changed(record: Record) -> Suspended;
-    fn hiomap_step(record: Record, flash: Bytes, memory: Bytes, done: u64) -> Stepped;
+    pub fn hiomap_step(record: Record, flash: Bytes, worn: Bytes, memory: Bytes, done: u64) -> Stepped;
     pub fn hiomap_pending(record: Record) -> Work;
 }
 
@@ -126,7 +127,12 @@ pub fn bytes(part: &mut [u8]) -> Bytes {
 
 /// Bytes that a call only reads.
 pub fn const_bytes(part: &[u8]) -> Bytes {
-    Bytes { data: part.as_ptr().cast_mut(), len: part.len() }
+    bytes_of(part, part.len())
+}
+
+/// Bytes that begin as this part does, with any length: a call that reads them past its end fails.
+pub fn bytes_of(part: &[u8], len: usize) -> Bytes {
+    Bytes { data: part.as_ptr().cast_mut(), len }
 }
 
 /// A bool byte of C.
@@ -140,19 +146,38 @@ pub fn fresh() -> Record {
     unsafe { hiomap_fresh() }
 }
 
-pub fn command(record: &mut Record, registers: &mut [u8; 16], lpc: u16, timeout: u16, flash: &mut [u8], memory: &mut [u8]) -> u32 {
-    unsafe { hiomap_command(record, registers, lpc, timeout, bytes(flash), bytes(memory)) }
+pub fn command(record: &mut Record, registers: &mut [u8; 16], lpc: u16, timeout: u16, flash: &mut [u8], worn: &[u8], memory: &mut [u8]) -> u32 {
+    unsafe { hiomap_command(record, registers, lpc, timeout, bytes(flash), const_bytes(worn), bytes(memory)) }
 }
 
-pub fn message(record: &mut Record, board: BoardPair, message: &[u8], lpc: u16, timeout: u16, flash: &mut [u8], memory: &mut [u8]) -> MessageReply {
+pub fn message(
+    record: &mut Record,
+    board: BoardPair,
+    message: &[u8],
+    lpc: u16,
+    timeout: u16,
+    flash: &mut [u8],
+    worn: &[u8],
+    memory: &mut [u8],
+) -> MessageReply {
     let BoardPair { network_function, command } = board;
-    unsafe { hiomap_message(record, network_function, command, const_bytes(message), lpc, timeout, bytes(flash), bytes(memory)) }
+    let (message, worn) = (const_bytes(message), const_bytes(worn));
+    unsafe { hiomap_message(record, network_function, command, message, lpc, timeout, bytes(flash), worn, bytes(memory)) }
 }
 
-/// The code, and the place of the first bad pair where one is named. Only the lengths of both buffers are handed over.
-pub fn mark_list(record: &mut Record, list: &[u16], lpc: u16, timeout: u16, flash: usize, memory: usize) -> (u8, Option<usize>) {
+/// The lengths of the flash, of its map of worn blocks and of the window memory, in bytes.
+#[derive(Clone, Copy, Debug)]
+pub struct Lengths {
+    pub flash: usize,
+    pub worn: usize,
+    pub memory: usize,
+}
+
+/// The code, and the place of the first bad pair where one is named. Only lengths are handed over beside the list.
+pub fn mark_list(record: &mut Record, list: &[u16], lpc: u16, timeout: u16, lengths: Lengths) -> (u8, Option<usize>) {
     let list = Numbers { data: list.as_ptr(), len: list.len() };
-    let answer = unsafe { hiomap_mark_list(record, list, lpc, timeout, flash, memory) };
+    let Lengths { flash, worn, memory } = lengths;
+    let answer = unsafe { hiomap_mark_list(record, list, lpc, timeout, flash, worn, memory) };
     let named = yes(answer.named);
     assert!(named || answer.place == 0, "no pair is named, and its place is {}", answer.place);
     (answer.code, named.then_some(answer.place.into()))
@@ -175,8 +200,8 @@ fn taken(record: &mut Record, answer: Suspended) -> bool {
     yes(answer.done)
 }
 
-pub fn step(record: &Record, flash: &mut [u8], memory: &mut [u8], done: u64) -> (u8, bool) {
-    let answer = unsafe { hiomap_step(*record, bytes(flash), bytes(memory), done) };
+pub fn step(record: &Record, flash: &mut [u8], worn: &[u8], memory: &mut [u8], done: u64) -> (u8, bool) {
+    let answer = unsafe { hiomap_step(*record, bytes(flash), const_bytes(worn), bytes(memory), done) };
     (answer.code, yes(answer.acted))
 }
 

@@ -1,6 +1,6 @@
 //! The second implementation behind C's record. It knows sessions only: what include/hiomap.h says of records that stand for none is here.
 
-use crate::{record_of, session_of, BoardPair, Record};
+use crate::{record_of, session_of, BoardPair, Lengths, Record};
 use second::{messages, Session};
 
 /// A number that is no window's, or a yes or no that is neither 0 nor 1, stands for no session.
@@ -8,7 +8,7 @@ fn stands_for_a_session(record: &Record) -> bool {
     record.window <= 2 && record.numbered <= 1 && record.suspended <= 1
 }
 
-pub fn command(record: &mut Record, registers: &mut [u8; 16], lpc: u16, timeout: u16, flash: &mut [u8], memory: &mut [u8]) -> u32 {
+pub fn command(record: &mut Record, registers: &mut [u8; 16], lpc: u16, timeout: u16, flash: &mut [u8], worn: &[u8], memory: &mut [u8]) -> u32 {
     if !stands_for_a_session(record) {
         registers[2..13].fill(0);
         registers[13] = second::SYSTEM_ERROR;
@@ -16,7 +16,7 @@ pub fn command(record: &mut Record, registers: &mut [u8; 16], lpc: u16, timeout:
         return 0;
     }
     let mut session = session_of(record);
-    let (after, actions) = second::command(&mut session, *registers, lpc, timeout, flash, memory);
+    let (after, actions) = second::command(&mut session, *registers, lpc, timeout, flash, worn, memory);
     *registers = after;
     *record = record_of(&session, record.previous);
     actions
@@ -24,37 +24,46 @@ pub fn command(record: &mut Record, registers: &mut [u8; 16], lpc: u16, timeout:
 
 /// The response's bytes, and the number of chip actions. A record that stands for no session is answered as its version has it, and the command
 /// of a message that is taken with SYSTEM_ERROR.
-pub fn message(record: &mut Record, board: BoardPair, message: &[u8], lpc: u16, timeout: u16, flash: &mut [u8], memory: &mut [u8]) -> (Vec<u8>, u32) {
+pub fn message(
+    record: &mut Record,
+    board: BoardPair,
+    message: &[u8],
+    lpc: u16,
+    timeout: u16,
+    flash: &mut [u8],
+    worn: &[u8],
+    memory: &mut [u8],
+) -> (Vec<u8>, u32) {
     if !stands_for_a_session(record) {
         return match messages::transport(record.version, board, message) {
             Err(refusal) => (refusal, 0),
             Ok(mut registers) => {
-                let actions = command(record, &mut registers, lpc, timeout, flash, memory);
+                let actions = command(record, &mut registers, lpc, timeout, flash, worn, memory);
                 (messages::pack(message, record.version, &registers), actions)
             }
         };
     }
     let mut session = session_of(record);
-    let answer = messages::message(&mut session, board, lpc, timeout, message, flash, memory);
+    let answer = messages::message(&mut session, board, lpc, timeout, message, flash, worn, memory);
     *record = record_of(&session, record.previous);
     answer
 }
 
-pub fn mark_list(record: &mut Record, list: &[u16], lpc: u16, flash: usize, memory: usize) -> (u8, Option<usize>) {
+pub fn mark_list(record: &mut Record, list: &[u16], lpc: u16, lengths: Lengths) -> (u8, Option<usize>) {
     if !stands_for_a_session(record) {
         return (second::SYSTEM_ERROR, None);
     }
     let mut session = session_of(record);
-    let answer = second::mark_list(&mut session, flash, memory, lpc, list);
+    let answer = second::mark_list(&mut session, lengths.flash, lengths.worn, lengths.memory, lpc, list);
     *record = record_of(&session, record.previous);
     answer
 }
 
-pub fn step(record: &Record, flash: &mut [u8], memory: &[u8], done: u64) -> (u8, bool) {
+pub fn step(record: &Record, flash: &mut [u8], worn: &[u8], memory: &[u8], done: u64) -> (u8, bool) {
     if !stands_for_a_session(record) {
         return (second::SYSTEM_ERROR, false);
     }
-    second::step(&session_of(record), flash, memory, done)
+    second::step(&session_of(record), flash, worn, memory, done)
 }
 
 /// Takes every record: it looks at the marks and their numbers alone.

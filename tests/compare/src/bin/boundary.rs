@@ -5,7 +5,7 @@
 
 use compare::kcs::{self, accesses, make, Port};
 use compare::pair::{Access, Pair};
-use compare::{bytes, const_bytes, messages, program, twin, BoardPair, Bytes, ListReply, MessageReply, Record, Suspended, Work};
+use compare::{bytes, bytes_of, const_bytes, messages, program, twin, BoardPair, Bytes, Lengths, ListReply, MessageReply, Record, Suspended, Work};
 use std::fs::File;
 use std::mem::{offset_of, size_of, transmute, MaybeUninit};
 
@@ -61,6 +61,14 @@ fn pair(record: Record) -> Pair {
     Pair::new(record, &pattern(3 * BLOCK, 10), &pattern(2 * BLOCK, 90), 0xa1b2, 0xc3d4)
 }
 
+/// The same, with this byte of the map at this block.
+fn worn_pair(record: Record, block: usize, worn: u8) -> Pair {
+    let (mut pair, mut map) = (pair(record), [0; 3]);
+    map[block] = worn;
+    pair.wear(&map);
+    pair
+}
+
 fn registers(code: u8, sequence: u8, arguments: &[u8]) -> [u8; 16] {
     let mut registers = [0; 16];
     registers[..2].copy_from_slice(&[code, sequence]);
@@ -71,7 +79,7 @@ fn registers(code: u8, sequence: u8, arguments: &[u8]) -> [u8; 16] {
 /// A command by mailbox and as a message of the length that the version has for it, each on a copy of the pair.
 fn both_ways(pair: &Pair, registers: [u8; 16]) -> Result<(), String> {
     pair.clone().command(registers)?;
-    pair.clone().message(BOARD, &messages::of_registers(BOARD, pair.record[0].version, &registers))
+    pair.clone().message(BOARD, &messages::of_registers(BOARD, pair.record[0].version, &registers)).map(drop)
 }
 
 /// Each call by itself on a copy of the pair.
@@ -122,6 +130,7 @@ fn fields() -> Result<(), String> {
             for value in values {
                 let record = with_byte(base, at, *value);
                 every_call(&pair(record)).map_err(|e| format!("byte {at} of the record is {value}: {e}"))?;
+                every_call(&worn_pair(record, 2, 1)).map_err(|e| format!("byte {at} of the record is {value}, block 2 worn: {e}"))?;
                 // a mark by itself, with the numbers that fit it
                 if at >= MARKS {
                     every_call(&pair(record.counted())).map_err(|e| format!("byte {at} of the record is {value}, counted: {e}"))?;
@@ -249,22 +258,30 @@ impl Drop for Zeros {
 
 /// Lengths of which only the last bits, or the last bits of their blocks, are those of a good length.
 fn large_lengths() -> Result<(), String> {
-    let (mut flash, mut memory) = (Zeros::new((1 << 44) + 3 * BLOCK), Zeros::new((1 << 44) + 3 * BLOCK));
+    let [mut flash, mut worn, mut memory] = [(); 3].map(|()| Zeros::new((1 << 44) + 3 * BLOCK));
     for more in [1 << 20, 1 << 28, 1 << 31, 1 << 32, 1 << 33, 1 << 40, 1 << 44] {
         let (s, c) = (3 * BLOCK, 2 * BLOCK);
         for (s, c) in [(s + more, c), (s, c + more), (s + more, c + more), (more, c), (s, more)] {
-            large(flash.part(s), memory.part(c)).map_err(|e| format!("flash of {s} bytes, window memory of {c}: {e}"))?;
+            // a byte of the map for each block, and for each of a few
+            for w in [s / BLOCK, 3] {
+                large(flash.part(s), worn.part(w), memory.part(c)).map_err(|e| format!("flash of {s} bytes, map of {w}, window memory of {c}: {e}"))?;
+            }
+        }
+    }
+    for shift in 2..45 {
+        for w in [(1 << shift) + 3, 1 << shift] {
+            large(flash.part(3 * BLOCK), worn.part(w), memory.part(2 * BLOCK)).map_err(|e| format!("map of {w} bytes: {e}"))?;
         }
     }
     Ok(())
 }
 
-/// Lists of marks: each number with bytes that both count, lengths about the most pairs and about powers of two, and lengths of both buffers of
-/// which only the last bits are those of a good length.
+/// Lists of marks: each number with bytes that both count, lengths about the most pairs and about powers of two, and lengths of both buffers and of
+/// the map of which only the last bits are those of a good length.
 fn lists() -> Result<(), String> {
     // the buffers are not touched, so that none are needed
     let wide = Pair::new(Record { size: 64, marks: [2; 64], ..record(2, 2) }.counted(), &[], &[], 0xa1b2, 0xc3d4);
-    let ask = |list: &[u16]| wide.clone().mark_list_of(list, 65 * BLOCK, 64 * BLOCK);
+    let ask = |list: &[u16]| wide.clone().mark_list_of(list, Lengths { flash: 65 * BLOCK, worn: 65, memory: 64 * BLOCK });
     let single: Vec<u16> = (0..64).flat_map(|block| [63 - block, 1]).collect();
     for at in 0..128 {
         for value in [0, 1, 2, 63, 64, 65, 0x0100, 0x0140, 0x4000, 0x8000, 0xff00, 0xffff] {
@@ -287,24 +304,26 @@ fn lists() -> Result<(), String> {
         }
     }
     let small = pair(record(2, 2));
-    for shift in 5..64 {
+    for shift in 0..64 {
         for (flash, memory) in [(3, 2), (0, 2), (3, 0), (0, 0)] {
             let (flash, memory) = (flash * BLOCK, memory * BLOCK);
             let more = 1usize << shift;
-            for (flash, memory) in [(flash + more, memory), (flash, memory + more), (flash + more, memory + more)] {
-                small.clone().mark_list_of(&[0, 1], flash, memory)?;
+            for (flash, memory) in [(flash + more, memory), (flash, memory + more), (flash + more, memory + more), (flash, memory)] {
+                for worn in [3, flash / BLOCK, 3 + more, more] {
+                    small.clone().mark_list_of(&[0, 1], Lengths { flash, worn, memory })?;
+                }
             }
         }
     }
-    small.clone().mark_list_of(&[0, 1], usize::MAX, usize::MAX)
+    small.clone().mark_list_of(&[0, 1], Lengths { flash: usize::MAX, worn: usize::MAX, memory: usize::MAX })
 }
 
 /// Calls that do not write there.
-fn large(flash: &mut [u8], memory: &mut [u8]) -> Result<(), String> {
+fn large(flash: &mut [u8], worn: &[u8], memory: &mut [u8]) -> Result<(), String> {
     for code in [2, 3] {
         let (mut ours, mut theirs) = ((record(2, 0), registers(code, 5, &[1])), (record(2, 0), registers(code, 5, &[1])));
-        let actions = compare::command(&mut ours.0, &mut ours.1, 16, 8, flash, memory);
-        let their_actions = twin::command(&mut theirs.0, &mut theirs.1, 16, 8, flash, memory);
+        let actions = compare::command(&mut ours.0, &mut ours.1, 16, 8, flash, worn, memory);
+        let their_actions = twin::command(&mut theirs.0, &mut theirs.1, 16, 8, flash, worn, memory);
         if (ours, actions) != (theirs, their_actions) {
             return Err(format!("command {code}: {:02X?}, the second implementation {:02X?}", ours.1, theirs.1));
         }
@@ -312,15 +331,15 @@ fn large(flash: &mut [u8], memory: &mut [u8]) -> Result<(), String> {
     for code in [2, 3] {
         let message = messages::of_registers(BOARD, 2, &registers(code, 5, &[1]));
         let (mut held, mut their) = (record(2, 0), record(2, 0));
-        let ours = compare::message(&mut held, BOARD, &message, 16, 8, flash, memory);
-        let theirs = twin::message(&mut their, BOARD, &message, 16, 8, flash, memory);
+        let ours = compare::message(&mut held, BOARD, &message, 16, 8, flash, worn, memory);
+        let theirs = twin::message(&mut their, BOARD, &message, 16, 8, flash, worn, memory);
         if (held, ours.bytes(), ours.actions) != (their, &theirs.0[..], theirs.1) {
             return Err(format!("message {message:02X?}: {ours:02X?}, the second implementation {theirs:02X?}"));
         }
     }
     // past the end of its flush
     let (record, done) = (record(2, 2), 100);
-    let (ours, theirs) = (compare::step(&record, flash, memory, done), twin::step(&record, flash, memory, done));
+    let (ours, theirs) = (compare::step(&record, flash, worn, memory, done), twin::step(&record, flash, worn, memory, done));
     if ours != theirs {
         return Err(format!("step: {ours:?}, the second implementation {theirs:?}"));
     }
@@ -337,7 +356,11 @@ fn counts() -> Result<(), String> {
         counts.push(u64::MAX - left);
         counts.push((1 << 63) - 1 - left);
     }
-    counts.into_iter().try_for_each(|done| pair.clone().step(done))
+    let worn = worn_pair(record(2, 2), 2, 1);
+    counts.into_iter().try_for_each(|done| {
+        pair.clone().step(done)?;
+        worn.clone().step(done).map(drop)
+    })
 }
 
 /// A window whose first block needs both of its bytes, and a flash whose number of blocks does.
@@ -349,6 +372,14 @@ fn far_window() -> Result<(), String> {
     pair.step(1)?;
     let commands: [(u8, &[u8]); 8] =
         [(8, &[]), (3, &[]), (6, &[0x36, 0x12, 1]), (7, &[0, 0, 1]), (2, &[1]), (3, &[]), (7, &[0x36, 0x12, 1]), (5, &[])];
+    // worn where a byte of a block's number would lead, and in the window
+    for block in [0x34, 0x35, 0x12, 1, 0x1234, 0x1235] {
+        let (mut worn, mut map) = (pair.clone(), vec![0; blocks]);
+        map[block] = 1;
+        worn.wear(&map);
+        both_ways(&worn, registers(8, 1, &[]))?;
+        worn.step(1)?;
+    }
     for (sequence, (code, arguments)) in (1..).zip(commands) {
         both_ways(&pair, registers(code, sequence, arguments))?;
         pair.command(registers(code, sequence, arguments))?;
@@ -362,7 +393,112 @@ fn most_actions() -> Result<(), String> {
     let pair = Pair::new(full, &pattern(66 * BLOCK, 10), &pattern(64 * BLOCK, 90), 0xa1b2, 0xc3d4);
     both_ways(&pair, registers(8, 5, &[]))?;
     both_ways(&pair, registers(4, 5, &[66]))?;
-    [1086, 1087, 1088].into_iter().try_for_each(|done| pair.clone().step(done))
+    let mut last = pair.clone();
+    last.wear(&[&[0; 64][..], &[1, 0]].concat());
+    both_ways(&last, registers(8, 5, &[]))?;
+    both_ways(&last, registers(4, 5, &[66]))?;
+    [1070, 1071, 1072, 1086, 1087, 1088].into_iter().try_for_each(|done| {
+        pair.clone().step(done)?;
+        last.clone().step(done).map(drop)
+    })
+}
+
+/// Five flash blocks, a window at blocks 1 to 3, with these marks.
+fn marked(version: u8, marks: [u8; 3]) -> Pair {
+    let mut held = Record { size: 3, marks: [0; 64], ..record(version, 2) };
+    held.marks[..3].copy_from_slice(&marks);
+    Pair::new(held.counted(), &pattern(5 * BLOCK, 10), &pattern(3 * BLOCK, 90), 0xa1b2, 0xc3d4)
+}
+
+/// What each call that flushes answers and leaves, by mailbox and by message, and then a few steps.
+fn flushes(pair: &Pair) -> Result<Vec<(Option<u8>, Pair)>, String> {
+    let commands: [(u8, &[u8]); 6] = [(4, &[0]), (4, &[5]), (5, &[]), (6, &[4]), (6, &[0xff, 0xff]), (8, &[])];
+    let mut all = Vec::new();
+    for (code, arguments) in commands {
+        let sent = registers(code, 5, arguments);
+        let (mut mailbox, mut messaged) = (pair.clone(), pair.clone());
+        let answer = mailbox.command(sent)?;
+        let completion = messaged.message(BOARD, &messages::of_registers(BOARD, pair.record[0].version, &sent))?;
+        all.extend([(Some(answer), mailbox), (completion, messaged)]);
+    }
+    for done in [0, 1, 17, 18, 40] {
+        let mut stepped = pair.clone();
+        all.push((Some(stepped.step(done)?), stepped));
+    }
+    Ok(all)
+}
+
+fn same_effect((answer, pair): &(Option<u8>, Pair), (other_answer, other): &(Option<u8>, Pair)) -> bool {
+    answer == other_answer && (pair.record, &pair.flash, &pair.memory) == (other.record, &other.flash, &other.memory)
+}
+
+/// Each value of the map at each flash block: one that is not 0 fails the erase of a marked block, and has no effect elsewhere.
+fn worn_values() -> Result<(), String> {
+    for (version, marks) in [(1, [1, 0, 2]), (2, [2, 0, 1]), (2, [0, 1, 0])] {
+        let good = marked(version, marks);
+        let expected = flushes(&good)?;
+        for (block, value) in (0..5).flat_map(|block| (0..=255).map(move |value| (block, value))) {
+            let (mut pair, mut map) = (good.clone(), [0; 5]);
+            map[block] = value;
+            pair.wear(&map);
+            let after = flushes(&pair).map_err(|e| format!("the map has {value} at block {block}: {e}"))?;
+            let no_effect = after.iter().zip(&expected).all(|(one, other)| same_effect(one, other));
+            let is_marked = (1..4).contains(&block) && marks[block - 1] != 0;
+            if no_effect == (value != 0 && is_marked) {
+                return Err(format!("marks {marks:?}, the map has {value} at block {block}: no effect is {no_effect}"));
+            }
+        }
+    }
+    Ok(())
+}
+
+/// Every map of three worn blocks in five, with marks of each kind, and FLUSH at version 1 with marks of its own.
+fn worn_places() -> Result<(), String> {
+    for (version, marks) in [1, 2].into_iter().flat_map(|version| [[1, 2, 1], [2, 1, 2], [2, 0, 1], [0, 0, 1], [0; 3]].map(|marks| (version, marks))) {
+        for places in 0..32 {
+            let mut pair = marked(version, marks);
+            pair.wear(&[0, 1, 2, 3, 4].map(|block| (places >> block & 1) * 0x81));
+            flushes(&pair)?;
+            for (first, bytes) in [(1, 0x10), (2, 0x10), (2, 0x11), (3, 0x10), (3, 0x11), (1, 0x30)] {
+                both_ways(&pair, registers(8, 5, &[first, 0, 0, bytes]))?;
+            }
+        }
+    }
+    Ok(())
+}
+
+/// Maps that are too short or too long by a few bytes, in each call.
+fn map_lengths() -> Result<(), String> {
+    for (version, window) in [(1, 2), (2, 2), (2, 0), (0, 0)] {
+        for length in 0..20 {
+            for value in [0, 1] {
+                let mut pair = pair(record(version, window));
+                pair.wear(&vec![value; length]);
+                every_call(&pair).map_err(|e| format!("map of {length} bytes: {e}"))?;
+            }
+        }
+    }
+    Ok(())
+}
+
+/// Maps with lengths of one bit too much, of which no byte may be read: SYSTEM_ERROR, and nothing is written.
+fn endless_maps() -> Result<(), String> {
+    let message = messages::of_registers(BOARD, 2, &registers(8, 5, &[]));
+    for (shift, more) in (16..64).flat_map(|shift| [0, 3].map(|more| (shift, more))) {
+        let worn = || bytes_of(&[0; 3], (1 << shift) + more);
+        let (mut held, mut sent) = (record(2, 2), registers(8, 5, &[]));
+        let (mut flash, mut memory) = (pattern(3 * BLOCK, 10), pattern(2 * BLOCK, 90));
+        let actions = unsafe { compare::hiomap_command(&mut held, &mut sent, 16, 8, bytes(&mut flash), worn(), bytes(&mut memory)) };
+        let step = unsafe { compare::hiomap_step(held, bytes(&mut flash), worn(), bytes(&mut memory), 0) };
+        let (message, (flash_part, memory_part)) = (const_bytes(&message), (bytes(&mut flash), bytes(&mut memory)));
+        let reply = unsafe { compare::hiomap_message(&mut held, 0x3a, 0x5c, message, 16, 8, flash_part, worn(), memory_part) };
+        let answers = (sent[13], actions, step.code, step.acted, reply.bytes().to_vec(), reply.actions);
+        let kept = held == record(2, 2) && flash == pattern(3 * BLOCK, 10) && memory == pattern(2 * BLOCK, 90);
+        if !kept || answers != (4, 0, 4, 0, vec![0xec, 0x5c, 0x84], 0) {
+            return Err(format!("a map of 2^{shift} and {more} bytes: {answers:?}, all kept {kept}"));
+        }
+    }
+    Ok(())
 }
 
 /// An answer and room behind it that no call may touch.
@@ -404,13 +540,13 @@ fn answers() -> Result<(), String> {
 
 /// The longest response that there is, and the empty one: what a message gives back ends where the header says.
 fn message_answer() -> Result<(), String> {
-    type Message = unsafe extern "C" fn(*mut Record, u8, u8, Bytes, u16, u16, Bytes, Bytes) -> MessageReply;
-    type Call = unsafe extern "C" fn(*mut [u8; MESSAGE_ANSWER], *mut Record, u8, u8, Bytes, u16, u16, Bytes, Bytes);
+    type Message = unsafe extern "C" fn(*mut Record, u8, u8, Bytes, u16, u16, Bytes, Bytes, Bytes) -> MessageReply;
+    type Call = unsafe extern "C" fn(*mut [u8; MESSAGE_ANSWER], *mut Record, u8, u8, Bytes, u16, u16, Bytes, Bytes, Bytes);
     let call: Call = unsafe { transmute(compare::hiomap_message as Message) };
     for message in [&[0xe8, 0x5c, 3, 5][..], &[]] {
         let bytes = guarded("hiomap_message", |place| {
             let (mut held, mut flash, mut memory) = (record(1, 0), [0; BLOCK], [0; BLOCK]);
-            unsafe { call(place, &mut held, 0x3a, 0x5c, const_bytes(message), 16, 8, bytes(&mut flash), bytes(&mut memory)) }
+            unsafe { call(place, &mut held, 0x3a, 0x5c, const_bytes(message), 16, 8, bytes(&mut flash), const_bytes(&[0]), bytes(&mut memory)) }
         })?;
         let mut expected = [0; MESSAGE_ANSWER];
         if !message.is_empty() {
@@ -485,10 +621,10 @@ fn each_byte() -> Result<(), String> {
             if window == 2 {
                 let own = [&right[..], &[0xff; 70]].concat();
                 let foreign = [&[0xec], &own[1..]].concat();
-                (0..=70).try_for_each(|length| {
+                for length in 0..=70 {
                     pair.clone().message(BOARD, &own[..length])?;
-                    pair.clone().message(BOARD, &foreign[..length])
-                })?;
+                    pair.clone().message(BOARD, &foreign[..length])?;
+                }
             }
         }
     }
@@ -584,6 +720,10 @@ fn main() {
         ("most actions", Box::new(most_actions)),
         ("wide answers", Box::new(wide_answers)),
         ("pending", Box::new(pending)),
+        ("worn blocks", Box::new(worn_values)),
+        ("their places", Box::new(worn_places)),
+        ("lengths of the map", Box::new(map_lengths)),
+        ("maps without an end", Box::new(endless_maps)),
         ("lists", Box::new(lists)),
         ("board's pair", Box::new(board_pairs)),
         ("messages", Box::new(each_byte)),

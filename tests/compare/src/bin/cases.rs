@@ -3,7 +3,7 @@
 //! cases ours|second SECTION: the proved library or the second implementation. tests/cases.sh compares what both print with the stored
 //! tests/cases/SECTION.txt.
 
-use compare::{record_of, session_of, Side};
+use compare::{record_of, session_of, Lengths, Side};
 use second::{Kind, Session};
 
 const BLOCK: usize = 4096;
@@ -17,24 +17,31 @@ struct Machine {
     session: Session,
     lpc: u16,
     flash: Vec<u8>,
+    worn: Vec<u8>,
     memory: Vec<u8>,
 }
 
 impl Machine {
-    /// No two of 16 blocks are alike, and no byte of them is FF.
+    /// No two of 16 blocks are alike, no byte of them is FF, and all are good.
     fn new(side: Side, flash: usize, memory: usize) -> Machine {
-        Machine { side, session: Session::fresh(), lpc: LPC, flash: pattern(flash, 0x10), memory: pattern(memory, 0x80) }
+        let machine = Machine { side, session: Session::fresh(), lpc: LPC, flash: vec![], worn: vec![], memory: pattern(memory, 0x80) };
+        machine.with_flash(pattern(flash, 0x10))
+    }
+
+    /// With another flash, all of its blocks good.
+    fn with_flash(self, flash: Vec<u8>) -> Machine {
+        Machine { worn: vec![0; flash.len() / BLOCK], flash, ..self }
     }
 
     fn command(&mut self, mut registers: [u8; 16]) -> ([u8; 16], u32) {
         match self.side {
             Side::Ours => {
                 let mut record = record_of(&self.session, 0);
-                let actions = compare::command(&mut record, &mut registers, self.lpc, TIMEOUT, &mut self.flash, &mut self.memory);
+                let actions = compare::command(&mut record, &mut registers, self.lpc, TIMEOUT, &mut self.flash, &self.worn, &mut self.memory);
                 self.session = session_of(&record);
                 (registers, actions)
             }
-            Side::Second => second::command(&mut self.session, registers, self.lpc, TIMEOUT, &mut self.flash, &mut self.memory),
+            Side::Second => second::command(&mut self.session, registers, self.lpc, TIMEOUT, &mut self.flash, &self.worn, &mut self.memory),
         }
     }
 
@@ -51,21 +58,21 @@ impl Machine {
 
     fn step(&mut self, done: u64) -> (u8, bool) {
         match self.side {
-            Side::Ours => compare::step(&record_of(&self.session, 0), &mut self.flash, &mut self.memory, done),
-            Side::Second => second::step(&self.session, &mut self.flash, &self.memory, done),
+            Side::Ours => compare::step(&record_of(&self.session, 0), &mut self.flash, &self.worn, &mut self.memory, done),
+            Side::Second => second::step(&self.session, &mut self.flash, &self.worn, &self.memory, done),
         }
     }
 
     fn mark_list(&mut self, list: &[u16]) -> (u8, Option<usize>) {
-        let (flash, memory) = (self.flash.len(), self.memory.len());
+        let (flash, worn, memory) = (self.flash.len(), self.worn.len(), self.memory.len());
         match self.side {
             Side::Ours => {
                 let mut record = record_of(&self.session, 0);
-                let answer = compare::mark_list(&mut record, list, self.lpc, TIMEOUT, flash, memory);
+                let answer = compare::mark_list(&mut record, list, self.lpc, TIMEOUT, Lengths { flash, worn, memory });
                 self.session = session_of(&record);
                 answer
             }
-            Side::Second => second::mark_list(&mut self.session, flash, memory, self.lpc, list),
+            Side::Second => second::mark_list(&mut self.session, flash, worn, memory, self.lpc, list),
         }
     }
 
@@ -295,7 +302,7 @@ fn unsound(side: Side) {
         print_soundness(name, m);
     }
     for flash in [0, 1, BLOCK - 1, BLOCK, BLOCK + 1, 65535 * BLOCK, 65535 * BLOCK + 1, 65536 * BLOCK] {
-        print_soundness(&format!("flash of {flash} bytes"), Machine { flash: vec![0; flash], ..Machine::new(side, 0, BLOCK) });
+        print_soundness(&format!("flash of {flash} bytes"), Machine::new(side, 0, BLOCK).with_flash(vec![0; flash]));
     }
     for memory in [0, 1, BLOCK - 1, BLOCK, BLOCK + 1, 64 * BLOCK, 64 * BLOCK + 1, 65 * BLOCK] {
         print_soundness(&format!("window memory of {memory} bytes"), Machine::new(side, BLOCK, memory));
@@ -527,7 +534,7 @@ fn full(side: Side) {
 
 /// The largest chip at version 1: sizes in bytes, and its last block.
 fn largest(side: Side) {
-    let mut m = Machine { flash: vec![0x11; 65535 * BLOCK], ..Machine::new(side, 0, 64 * BLOCK) };
+    let mut m = Machine::new(side, 0, 64 * BLOCK).with_flash(vec![0x11; 65535 * BLOCK]);
     for (code, arguments) in [(2, vec![1]), (3, vec![]), (6, vec![65534]), (7, vec![65534, 4096, 0]), (7, vec![65535, 0, 0])] {
         m.session.previous = None;
         print_command(&mut m, code, &arguments);

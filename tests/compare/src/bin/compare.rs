@@ -3,9 +3,11 @@
 //! compare [SEED [ROUNDS]]: one seed, or many; the line that a difference prints runs it again.
 
 use compare::pair::{Access, Pair};
-use compare::{messages, program, session_of, twin, BoardPair, Random, Record};
+use compare::{messages, program, session_of, twin, BoardPair, Lengths, Random, Record};
+use std::collections::BTreeMap;
 
 const BLOCK: usize = 4096;
+const WRITE_ERROR: u8 = 3;
 const CONTROL_LOST: u8 = 0x40;
 
 fn random_pair(r: &mut Random) -> Pair {
@@ -17,7 +19,37 @@ fn random_pair(r: &mut Random) -> Pair {
     r.fill(&mut memory);
     let record = random_record(r, s as u64, c as u64);
     let lpc = if r.once_in(12) { (65536 - c as u64 - 1 + r.below(3)) as u16 } else { r.next() as u16 };
-    Pair::new(record, &flash, &memory, lpc, r.next() as u16)
+    let mut pair = Pair::new(record, &flash, &memory, lpc, r.next() as u16);
+    wear(r, &mut pair);
+    pair
+}
+
+/// Another map: mostly of good blocks, or with a few worn ones, most of these in the window or beside it; now and then of a wrong length.
+fn wear(r: &mut Random, pair: &mut Pair) {
+    let blocks = pair.flash[0].part().len() / BLOCK;
+    let mut map = worn_map(r, blocks, &pair.record[0]);
+    match r.below(40) {
+        0 => drop(map.pop()),
+        1 => map.push(0),
+        2 => map.clear(),
+        3 => map.resize(r.below(300) as usize, 0),
+        _ => {}
+    }
+    pair.wear(&map);
+}
+
+fn worn_map(r: &mut Random, blocks: usize, record: &Record) -> Vec<u8> {
+    let mut map = vec![0; blocks];
+    let count = r.one_of(&[0, 0, 0, 0, 1, 1, 1, 2, 3]);
+    for _ in 0..count {
+        let near = (u64::from(record.first) + r.below(u64::from(record.size) + 2)).saturating_sub(1);
+        let block = if r.once_in(5) { r.next() } else { near };
+        let any = 1 + r.below(255) as u8;
+        if let Some(worn) = map.get_mut(block as usize % blocks.max(1)) {
+            *worn = r.one_of(&[1, 2, 128, 255, any]);
+        }
+    }
+    map
 }
 
 /// Mostly whole blocks, now and then any length.
@@ -94,9 +126,14 @@ fn near(r: &mut Random, number: u8) -> u8 {
 }
 
 fn registers(r: &mut Random, record: &Record) -> [u8; 16] {
+    let code = if r.once_in(20) { r.next() as u8 } else { r.below(12) as u8 };
+    registers_of(r, record, code)
+}
+
+fn registers_of(r: &mut Random, record: &Record, code: u8) -> [u8; 16] {
     let mut registers = [0; 16];
     r.fill(&mut registers);
-    registers[0] = if r.once_in(20) { r.next() as u8 } else { r.below(12) as u8 };
+    registers[0] = code;
     registers[1] = if r.once_in(16) { record.previous } else { r.below(5) as u8 };
     for i in (2..13).step_by(2) {
         match r.below(6) {
@@ -202,9 +239,10 @@ fn both_ways(r: &mut Random, pair: &Pair, board: BoardPair) -> Result<(), String
     let mut message = messages::of_registers(board, pair.record[0].version, &sent);
     message[0] |= r.below(4) as u8;
     let (mut mailbox, mut messaged, mut after) = (pair.clone(), pair.clone(), sent);
-    let actions = compare::command(&mut mailbox.record[0], &mut after, pair.lpc, pair.timeout, mailbox.flash[0].part(), mailbox.memory[0].part());
-    let reply =
-        compare::message(&mut messaged.record[0], board, &message, pair.lpc, pair.timeout, messaged.flash[0].part(), messaged.memory[0].part());
+    let (flash, worn, memory) = (mailbox.flash[0].part(), mailbox.worn[0].part(), mailbox.memory[0].part());
+    let actions = compare::command(&mut mailbox.record[0], &mut after, pair.lpc, pair.timeout, flash, worn, memory);
+    let (flash, worn, memory) = (messaged.flash[0].part(), messaged.worn[0].part(), messaged.memory[0].part());
+    let reply = compare::message(&mut messaged.record[0], board, &message, pair.lpc, pair.timeout, flash, worn, memory);
     if (mailbox.record[0], &mailbox.flash[0], &mailbox.memory[0]) != (messaged.record[0], &messaged.flash[0], &messaged.memory[0]) {
         return Err(format!("command {sent:02X?} and message {message:02X?} leave different records, flash or window memory"));
     }
@@ -215,16 +253,74 @@ fn both_ways(r: &mut Random, pair: &Pair, board: BoardPair) -> Result<(), String
     Ok(())
 }
 
+/// How often a flush failed, by the call that showed it.
+type Failures = BTreeMap<String, u64>;
+
+/// Everything that can show it: each command that flushes, at both versions that know it, a create with its block inside the flash and past it; a
+/// message; and a step.
+fn all_failures() -> Failures {
+    let commands = ["FLUSH", "CLOSE_WINDOW", "create read", "create read past", "create write", "create write past"];
+    let at = |version| commands.map(|name| format!("{name} {version}"));
+    let others = ["FLUSH with marks 1", "message", "step"].map(String::from);
+    at(1).into_iter().chain(at(2)).chain(others).map(|name| (name, 0)).collect()
+}
+
+fn command_name(registers: &[u8; 16], version: u8, blocks: usize) -> String {
+    let first = u16::from_le_bytes([registers[2], registers[3]]);
+    let past = if usize::from(first) >= blocks { " past" } else { "" };
+    match registers[0] {
+        4 => format!("create read{past} {version}"),
+        5 => format!("CLOSE_WINDOW {version}"),
+        6 => format!("create write{past} {version}"),
+        _ if version == 1 && registers[4..8] != [0; 4] => "FLUSH with marks 1".into(),
+        _ => format!("FLUSH {version}"),
+    }
+}
+
+/// A command, the same on both sides.
+fn command(pair: &mut Pair, sent: [u8; 16], failures: &mut Failures) -> Result<(), String> {
+    let version = pair.record[0].version;
+    if pair.command(sent)? == WRITE_ERROR {
+        let blocks = pair.flash[0].part().len() / BLOCK;
+        *failures.entry(command_name(&sent, version, blocks)).or_default() += 1;
+    }
+    Ok(())
+}
+
+/// A write window with marks, another map, and a command that flushes.
+fn flush(r: &mut Random, pair: &mut Pair, failures: &mut Failures) -> Result<(), String> {
+    let [s, c] = [&mut pair.flash, &mut pair.memory].map(|both| both[0].part().len() / BLOCK);
+    if s == 0 || c == 0 {
+        return Ok(());
+    }
+    let record = Record { version: 1 + r.below(2) as u8, ..write_window(r, s, c) };
+    pair.record = [record; 2];
+    wear(r, pair);
+    let code = r.one_of(&[4, 5, 6, 8, 8]);
+    command(pair, registers_of(r, &record, code), failures)
+}
+
+/// A session without a previous number, with a write window somewhere in the flash and any marks.
+fn write_window(r: &mut Random, s: usize, c: usize) -> Record {
+    let mut record = Record { window: 2, first: r.below(s as u64) as u16, ..compare::fresh() };
+    record.size = 1 + r.below(c.min(s - record.first as usize).min(64) as u64) as u16;
+    for mark in &mut record.marks[..record.size as usize] {
+        *mark = r.below(3) as u8;
+    }
+    record.counted()
+}
+
 /// A list of calls, the same on both sides.
-fn calls(r: &mut Random) -> Result<(), String> {
+fn calls(r: &mut Random, failures: &mut Failures) -> Result<(), String> {
     let (mut pair, board) = (random_pair(r), random_board(r));
     let mut done = 0;
     for _ in 0..40 {
-        match r.below(18) {
+        match r.below(22) {
             0 => pair.access(r.one_of(&[Access::Suspend, Access::Resume, Access::ResumeChanged]))?,
             1 => host_write(r, &mut pair),
             2 | 3 => {
-                pair.step(done)?;
+                let failed = pair.step(done)? == WRITE_ERROR;
+                *failures.entry("step".into()).or_default() += u64::from(failed);
                 done = if r.once_in(2) { jump(r) } else { done.wrapping_add(1) };
             }
             4 | 5 => {
@@ -233,10 +329,16 @@ fn calls(r: &mut Random) -> Result<(), String> {
             }
             6..=9 => {
                 let sent = message(r, board, &pair.record[0]);
-                pair.message(board, &sent)?;
+                let failed = pair.message(board, &sent)? == Some(0x80 + WRITE_ERROR);
+                *failures.entry("message".into()).or_default() += u64::from(failed);
             }
             10 => both_ways(r, &pair, board)?,
-            _ => pair.command(registers(r, &pair.record[0]))?,
+            11 | 12 => wear(r, &mut pair),
+            13 | 14 => flush(r, &mut pair, failures)?,
+            _ => {
+                let sent = registers(r, &pair.record[0]);
+                command(&mut pair, sent, failures)?;
+            }
         }
     }
     Ok(())
@@ -253,35 +355,49 @@ fn host_write(r: &mut Random, pair: &mut Pair) {
     pair.host_write(at, &bytes);
 }
 
-/// Demand 3 on the proved library: cut at any action, open again, mark, write and flush. The steps up to the cut run beside the second's.
+/// How many actions a flush of these marks takes up to the first block whose erase fails, and whether there is one.
+fn reached(record: &Record, worn: &[u8]) -> (u64, bool) {
+    let blocks = record.marks[..record.size as usize].iter().zip(&worn[record.first as usize..]);
+    let mut actions = 0;
+    for (mark, worn) in blocks {
+        if *mark != 0 && *worn != 0 {
+            return (actions, true);
+        }
+        actions += [0, 17, 1][*mark as usize];
+    }
+    (actions, false)
+}
+
+/// Demand 3 on the proved library: cut at any action or at a worn block, open again, mark, write and flush, with no worn block among the marked
+/// ones. The steps up to the cut run beside the second's.
 fn cut(r: &mut Random) -> Result<(), String> {
     let (s, c) = (2 + r.below(6) as usize, 1 + r.below(4) as usize);
     let mut flash = vec![0; s * BLOCK];
     let mut memory = vec![0; c * BLOCK];
     r.fill(&mut flash);
     r.fill(&mut memory);
-    let mut record = compare::fresh();
-    record.version = r.below(3) as u8;
-    record.window = 2;
-    record.first = r.below(s as u64) as u16;
-    record.size = 1 + r.below((c.min(s - record.first as usize)) as u64) as u16;
+    let record = Record { version: r.below(3) as u8, ..write_window(r, s, c) };
     let size = record.size as usize;
-    for mark in &mut record.marks[..size] {
-        *mark = r.below(3) as u8;
-    }
-    let record = record.counted();
     let n = second::flush_actions(&session_of(&record)) as u64;
     let mut whole = flash.clone();
     for j in 0..n {
-        compare::step(&record, &mut whole, &mut memory, j);
+        compare::step(&record, &mut whole, &vec![0; s], &mut memory, j);
     }
+    let mut worn = worn_map(r, s, &record);
+    let (most, fails) = reached(&record, &worn);
     let cut = r.below(n + 1);
     let mut theirs = flash.clone();
-    for j in 0..cut {
-        let answer = compare::step(&record, &mut flash, &mut memory, j);
-        if answer != twin::step(&record, &mut theirs, &memory, j) || answer != (1, true) || flash != theirs {
-            return Err(format!("cut: step {j} of {n} differs"));
+    for step in 0..cut {
+        // the count stays where an erase fails
+        let j = step.min(most);
+        let expected = if step < most || !fails { (1, true) } else { (WRITE_ERROR, false) };
+        let answer = compare::step(&record, &mut flash, &worn, &mut memory, j);
+        if answer != twin::step(&record, &mut theirs, &worn, &memory, j) || answer != expected || flash != theirs {
+            return Err(format!("cut: step {step} of {n} differs"));
         }
+    }
+    for (mark, worn) in record.marks[..size].iter().zip(&mut worn[record.first as usize..]) {
+        *worn = if *mark == 0 { *worn } else { 0 };
     }
     let mut other = vec![0; c * BLOCK];
     r.fill(&mut other);
@@ -292,7 +408,7 @@ fn cut(r: &mut Random) -> Result<(), String> {
         registers[1] = sequence;
         registers[2..4].copy_from_slice(&arguments[0].to_le_bytes());
         registers[4..6].copy_from_slice(&arguments[1].to_le_bytes());
-        compare::command(again, &mut registers, 16, 8, flash, other);
+        compare::command(again, &mut registers, 16, 8, flash, &worn, other);
         registers[13]
     };
     send(&mut again, 2, 1, [2, 0], &mut flash, &mut other);
@@ -310,7 +426,7 @@ fn cut(r: &mut Random) -> Result<(), String> {
             other[block * BLOCK..(block + 1) * BLOCK].copy_from_slice(&memory[block * BLOCK..(block + 1) * BLOCK]);
         }
     }
-    if compare::mark_list(&mut again, &list, 16, 8, flash.len(), other.len()) != (1, None) {
+    if compare::mark_list(&mut again, &list, 16, 8, Lengths { flash: flash.len(), worn: s, memory: other.len() }) != (1, None) {
         return Err("cut: the second run's list of marks was refused".into());
     }
     if send(&mut again, 8, 200, [0, 0], &mut flash, &mut other) != 1 {
@@ -434,10 +550,10 @@ fn main() {
     let (first, rounds) = (number(arguments.next()), number(arguments.next()));
     let program = std::env::var("BENCH").expect("BENCH names the bench program");
     println!("compare: seeds {first} to {}", first + rounds - 1);
-    let (mut runs, mut written) = (0, 0);
+    let (mut runs, mut written, mut failures) = (0, 0, all_failures());
     for seed in first..first + rounds {
         let mut r = Random(seed.wrapping_mul(0x1234_5678_9abc_def1));
-        let mut result = calls(&mut r).and_then(|()| cut(&mut r));
+        let mut result = calls(&mut r, &mut failures).and_then(|()| cut(&mut r));
         if result.is_ok() && seed % 4 == 0 {
             runs += 1;
             result = bench(&mut r, &program).map(|wrote| written += u64::from(wrote));
@@ -449,5 +565,7 @@ fn main() {
         }
     }
     println!("compare: {rounds} rounds, {runs} of them with the bench program, {written} of these wrote to its flash; no difference");
+    println!("compare: flushes that failed: {}", failures.iter().map(|(name, count)| format!("{name} {count}")).collect::<Vec<_>>().join(", "));
     assert!(runs < 100 || written > runs / 20, "the bench program is hardly tried");
+    assert!(rounds < 10_000 || failures.values().all(|count| *count >= 100), "failing flushes are hardly tried");
 }

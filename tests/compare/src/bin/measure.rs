@@ -1,7 +1,7 @@
 //! Measures the proved libraries in one run beside the machine's own limits and the second implementation, as times and their ratio.
 
 use compare::kcs::{accesses, make, Port, Second, MOST};
-use compare::{kcs, messages, record_of, session_of, BoardPair, Record};
+use compare::{kcs, messages, record_of, session_of, BoardPair, Lengths, Record};
 use second::{Kind, Session};
 use std::hint::black_box;
 use std::time::Instant;
@@ -12,6 +12,7 @@ const BOARD: BoardPair = BoardPair { network_function: 0x3a, command: 0x5c };
 /// What the measured calls work on.
 struct Room {
     flash: Vec<u8>,
+    worn: Vec<u8>,
     memory: Vec<u8>,
 }
 
@@ -53,16 +54,20 @@ fn request(code: u8, a: u16, b: u16) -> [u8; 16] {
 }
 
 /// One command of the proved library on a copy of a record, with so much of the flash.
-fn ours(record: &Record, mut registers: [u8; 16], room: &mut Room, flash: usize) {
+fn ours(record: &Record, registers: [u8; 16], room: &mut Room, flash: usize) {
+    assert_eq!(answered(record, registers, room, flash), 1);
+}
+
+fn answered(record: &Record, mut registers: [u8; 16], room: &mut Room, flash: usize) -> u8 {
     let mut record = *record;
-    compare::command(&mut record, &mut registers, 16, 8, &mut room.flash[..flash], &mut room.memory);
-    assert_eq!(registers[13], 1);
+    compare::command(&mut record, &mut registers, 16, 8, &mut room.flash[..flash], &room.worn[..flash / BLOCK], &mut room.memory);
     black_box(record.events);
+    registers[13]
 }
 
 fn theirs(session: &Session, registers: [u8; 16], room: &mut Room) {
     let mut session = session.clone();
-    black_box(second::command(&mut session, registers, 16, 8, &mut room.flash, &mut room.memory));
+    black_box(second::command(&mut session, registers, 16, 8, &mut room.flash, &room.worn, &mut room.memory));
 }
 
 /// One look at all marks of a record that is handed over as the library's is: how many are dirty, and how many erased.
@@ -126,7 +131,7 @@ fn single_marks(record: &Record, room: &mut Room, blocks: u16) {
     for block in 0..blocks {
         let mut registers = request(7, block, 1);
         registers[1] = block as u8 + 1;
-        compare::command(&mut record, &mut registers, 16, 8, &mut room.flash, &mut room.memory);
+        compare::command(&mut record, &mut registers, 16, 8, &mut room.flash, &room.worn, &mut room.memory);
         assert_eq!(registers[13], 1);
     }
     black_box(record.events);
@@ -138,15 +143,16 @@ fn against_single_commands(room: &mut Room) {
     let record = record_of(&clean, 0);
     let single: Vec<u16> = (0..64).flat_map(|block| [block, 1]).collect();
     let all: Vec<u16> = [0, 64].repeat(64);
-    let sizes = [64 * BLOCK; 2];
+    let lengths = Lengths { flash: 64 * BLOCK, worn: 64, memory: 64 * BLOCK };
     let ours = |list: &[u16]| {
         let mut record = record;
-        assert_eq!(compare::mark_list(&mut record, black_box(list), 16, 8, sizes[0], sizes[1]), (1, None));
+        assert_eq!(compare::mark_list(&mut record, black_box(list), 16, 8, lengths), (1, None));
         black_box(record.events);
     };
     let theirs = |list: &[u16]| {
         let mut session = clean.clone();
-        assert_eq!(second::mark_list(&mut session, sizes[0], sizes[1], 16, black_box(list)), (1, None));
+        let answer = second::mark_list(&mut session, lengths.flash, lengths.worn, lengths.memory, 16, black_box(list));
+        assert_eq!(answer, (1, None));
         black_box(session.events);
     };
     let eight = least(200, 2_000, room, |_| ours(&single), |room| single_marks(&record, room, 8));
@@ -162,7 +168,7 @@ fn against_single_commands(room: &mut Room) {
 /// One message to the proved library on a copy of a record: the length of its response is this.
 fn our_message(record: &Record, message: &[u8], room: &mut Room, length: usize) {
     let mut record = *record;
-    let reply = compare::message(&mut record, BOARD, black_box(message), 16, 8, &mut room.flash, &mut room.memory);
+    let reply = compare::message(&mut record, BOARD, black_box(message), 16, 8, &mut room.flash, &room.worn, &mut room.memory);
     assert_eq!(reply.length as usize, length);
     // by reference: a copy would wait for the single bytes that were just written
     black_box(&reply);
@@ -171,7 +177,7 @@ fn our_message(record: &Record, message: &[u8], room: &mut Room, length: usize) 
 
 fn their_message(session: &Session, message: &[u8], room: &mut Room, length: usize) {
     let mut session = session.clone();
-    let (response, _) = second::messages::message(&mut session, BOARD, 16, 8, black_box(message), &mut room.flash, &mut room.memory);
+    let (response, _) = second::messages::message(&mut session, BOARD, 16, 8, black_box(message), &mut room.flash, &room.worn, &mut room.memory);
     assert_eq!(response.len(), length);
     black_box((session.events, response));
 }
@@ -207,9 +213,19 @@ fn against_a_look(room: &mut Room) {
     line("how much is pending", "one look at the marks of the same record", &[least(200, 20_000, room, ours, look)], 1.1);
 }
 
+/// A flush that fails at the second of 64 dirty blocks, against one of the first alone.
+fn against_one_block(room: &mut Room) {
+    let (all, one) = (record_of(&write_window(0, 64, 1), 0), record_of(&write_window(0, 1, 1), 0));
+    room.worn[1] = 1;
+    let failing = |room: &mut Room| assert_eq!(answered(&all, request(8, 0, 0), room, 64 * BLOCK), 3);
+    let whole = |room: &mut Room| ours(&one, request(8, 0, 0), room, 64 * BLOCK);
+    line("flush of 64 dirty blocks, the second one worn", "flush of one dirty block", &[least(200, 1_000, room, failing, whole)], 1.5);
+    room.worn[1] = 0;
+}
+
 /// The largest chip against a small one, which is its front.
 fn against_a_small_chip(closed: &Record) {
-    let mut room = Room { flash: vec![0xff; 65_535 * BLOCK], memory: vec![0; 2 * BLOCK] };
+    let mut room = Room { flash: vec![0xff; 65_535 * BLOCK], worn: vec![0; 65_535], memory: vec![0; 2 * BLOCK] };
     let two = record_of(&write_window(0, 2, 1), 0);
     let none = record_of(&write_window(0, 2, 0), 0);
     for (what, record, registers, calls) in [
@@ -313,13 +329,14 @@ fn against_the_second_port() {
 fn main() {
     println!("| what | ours | against | that | ratio | aim | |");
     println!("|---|---|---|---|---|---|---|");
-    let mut rooms: Vec<_> = (0..8).map(|_| Room { flash: vec![0x5a; 64 * BLOCK], memory: vec![0xa5; 64 * BLOCK] }).collect();
+    let mut rooms: Vec<_> = (0..8).map(|_| Room { flash: vec![0x5a; 64 * BLOCK], worn: vec![0; 64], memory: vec![0xa5; 64 * BLOCK] }).collect();
     let closed = record_of(&Session { version: 2, ..Session::fresh() }, 0);
     against_the_machine(&mut rooms, &closed);
     against_the_second(&mut rooms[0]);
     against_single_commands(&mut rooms[0]);
     messages_against_both(&mut rooms[0]);
     against_a_look(&mut rooms[0]);
+    against_one_block(&mut rooms[0]);
     against_a_small_chip(&closed);
     against_the_second_port();
 }

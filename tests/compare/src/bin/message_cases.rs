@@ -20,13 +20,15 @@ struct Machine {
     record: Record,
     lpc: u16,
     flash: Vec<u8>,
+    worn: Vec<u8>,
     memory: Vec<u8>,
 }
 
 impl Machine {
-    /// A fresh session, four flash blocks and two window blocks.
+    /// A fresh session, four flash blocks, all good, and two window blocks.
     fn new(side: Side) -> Machine {
-        Machine { side, board: BOARD, record: compare::fresh(), lpc: LPC, flash: pattern(4 * BLOCK, 0x10), memory: pattern(2 * BLOCK, 0x80) }
+        let (flash, worn, memory) = (pattern(4 * BLOCK, 0x10), vec![0; 4], pattern(2 * BLOCK, 0x80));
+        Machine { side, board: BOARD, record: compare::fresh(), lpc: LPC, flash, worn, memory }
     }
 
     /// A version, a previous number, and a write window at blocks 1 and 2 whose second block is dirty.
@@ -39,13 +41,13 @@ impl Machine {
     }
 
     fn message(&mut self, message: &[u8]) -> (Vec<u8>, u32) {
-        let Machine { side, board, record, lpc, flash, memory } = self;
+        let Machine { side, board, record, lpc, flash, worn, memory } = self;
         match side {
             Side::Ours => {
-                let reply = compare::message(record, *board, message, *lpc, TIMEOUT, flash, memory);
+                let reply = compare::message(record, *board, message, *lpc, TIMEOUT, flash, worn, memory);
                 (reply.bytes().to_vec(), reply.actions)
             }
-            Side::Second => twin::message(record, *board, message, *lpc, TIMEOUT, flash, memory),
+            Side::Second => twin::message(record, *board, message, *lpc, TIMEOUT, flash, worn, memory),
         }
     }
 
@@ -276,7 +278,7 @@ fn sequences(side: Side) {
 
 fn wide(side: Side) {
     println!("one after another: numbers of which both bytes count, and the most actions");
-    let mut m = Machine { flash: vec![0x11; 0x1238 * BLOCK], memory: vec![0x99; 64 * BLOCK], ..Machine::new(side) };
+    let mut m = Machine { flash: vec![0x11; 0x1238 * BLOCK], worn: vec![0; 0x1238], memory: vec![0x99; 64 * BLOCK], ..Machine::new(side) };
     m.print();
     for sent in listed(
         "E8 5C 02 01 02|E8 5C 03 02|E8 5C 06 03 36 12 00 00|E8 5C 07 04 01 00 01 00|E8 5C 0A 05 00 00 01 00|E8 5C 06 06 34 11 00 01|\
@@ -288,7 +290,7 @@ fn wide(side: Side) {
 }
 
 /// Whole conversations, each message on what the one before left; the host writes to the window between them.
-const CONVERSATIONS: [(&str, &str); 4] = [
+const CONVERSATIONS: [(&str, &str); 5] = [
     (
         "version 2, from GET_INFO to FLUSH",
         "E8 5C 02 01 02|E8 5C 03 02|E8 5C 06 03 01 00 02 00|host A5 5A|E8 5C 07 04 00 00 01 00|E8 5C 0A 05 01 00 01 00|E8 5C 08 06|E8 5C 05 07 00",
@@ -309,6 +311,12 @@ const CONVERSATIONS: [(&str, &str); 4] = [
          E8 5C 02 04 02|E8 5C 08 05 00 00 00 00 00 00|E8 5C 0A 05 01 00 01 00|E8 5C 02 06 01|\
          E8 5C 08 07|E8 5C 08 07 00 00 00 00 00 00|E8 5C 02 08 00|E8 5C 05 08 00|E8 5C 05 08",
     ),
+    (
+        "worn blocks: an erase that fails is 83; what stays marked is flushed with a good map, or dropped by a create",
+        "E8 5C 02 01 02|E8 5C 06 02 01 00 02 00|host A5 5A|E8 5C 07 03 00 00 02 00|driver 00 00 80 00|E8 5C 08 04|E8 5C 08 04|E8 5C 05 05 00|\
+         E8 5C 05 06 02|driver 00 00 00 00|E8 5C 08 07|E8 5C 0A 08 00 00 01 00|driver 00 01 00|E8 5C 08 09|E8 5C 08 09 00|driver 00 01 00 00|\
+         E9 5C 04 09 04 00 00 00|E8 5C 08 0A|E8 5C 02 0B 01|E8 5C 06 0C 01 00|E8 5C 08 0D 02 00 01 00 00 00|E8 5C 08 0E 01 00 01 00 00 00|E8 5C 05 0F",
+    ),
 ];
 
 fn conversations(side: Side) {
@@ -317,9 +325,10 @@ fn conversations(side: Side) {
         let mut m = Machine::new(side);
         m.print();
         for line in lines.split('|') {
-            match line.strip_prefix("host ") {
-                Some(blocks) => host_fills(&mut m, &bytes(blocks)),
-                None => m.send(&bytes(line)),
+            match line.split_once(' ') {
+                Some(("host", blocks)) => host_fills(&mut m, &bytes(blocks)),
+                Some(("driver", map)) => driver_gives(&mut m, bytes(map)),
+                _ => m.send(&bytes(line)),
             }
         }
     }
@@ -329,6 +338,12 @@ fn conversations(side: Side) {
 fn host_fills(m: &mut Machine, blocks: &[u8]) {
     m.memory = blocks.iter().flat_map(|byte| [*byte; BLOCK]).collect();
     println!("    the host fills the window blocks: {}", blocks_text(&m.memory));
+}
+
+/// The driver gives another map of worn blocks.
+fn driver_gives(m: &mut Machine, map: Vec<u8>) {
+    println!("    the driver's map: {}", hex(&map));
+    m.worn = map;
 }
 
 fn main() {
