@@ -23,7 +23,7 @@ is_as_stored() {
     echo "cases: $name, $(wc -l < "$stored") lines as stored"
 }
 
-for section in refusals edges flags unsound suspensions events cuts pending lists full largest; do
+for section in refusals edges flags unsound suspensions events cuts pending lists full largest worn; do
     is_as_stored $section target/cargo/release/cases "$side" $section
 done
 is_as_stored messages target/cargo/release/message_cases "$side"

@@ -156,6 +156,10 @@ fn suspend(m: &mut Machine) {
     m.session.events |= 0x40;
 }
 
+fn is_as_before(m: &Machine, before: &Machine) -> bool {
+    m.session == before.session && m.flash == before.flash && m.memory == before.memory
+}
+
 /// Every command from 0 to 11 and 255, at each version, with each window, suspended and not: the response code, and `~` where the session,
 /// the flash or the window memory changed in more than the previous number.
 fn refusals(side: Side) {
@@ -225,18 +229,23 @@ fn edges(side: Side) {
     }
 }
 
+/// Numbers from 0 on, those that are answered alike together.
+fn runs_text(answers: &[String]) -> String {
+    let mut from = 0;
+    let runs = answers.chunk_by(|a, b| a == b).map(|run| {
+        from += run.len();
+        format!("{} to {}: {}", from - run.len(), from - 1, run[0])
+    });
+    runs.collect::<Vec<_>>().join(", ")
+}
+
 /// CLOSE_WINDOW with every value of its flags, at each version, with each window: the values that get one answer, and the answer as in `refusals`.
 fn flags(side: Side) {
     println!("CLOSE_WINDOW; ~ where more than the previous number changed");
     for version in 0..3 {
         for kind in [Kind::Closed, Kind::Read, Kind::Write] {
             let answers: Vec<String> = (0..256).map(|flags| refusal(side, (version, kind, false), 5, 1, flags)).collect();
-            let mut from = 0;
-            let runs = answers.chunk_by(|a, b| a == b).map(|run| {
-                from += run.len();
-                format!("{} to {}: {}", from - run.len(), from - 1, run[0])
-            });
-            println!("version {version} window {kind:?}, flags {}", runs.collect::<Vec<_>>().join(", "));
+            println!("version {version} window {kind:?}, flags {}", runs_text(&answers));
         }
     }
 }
@@ -313,7 +322,7 @@ fn print_soundness(name: &str, mut m: Machine) {
     let before = m.clone();
     let (code, acted) = m.step(0);
     let (registers, actions) = m.send(2, 3, &[1]);
-    let kept = m.session == before.session && m.memory == before.memory && m.flash == before.flash;
+    let kept = is_as_before(&m, &before);
     println!("{name}: step {code} {acted}, GET_INFO {} actions {actions}, all kept {kept}, pending {}", registers[13], before.pending());
 }
 
@@ -356,7 +365,7 @@ fn events(side: Side) {
             let before = m.clone();
             let codes: Vec<String> = (0..12).flat_map(|code| [1, 9].map(|sequence| m.send(code, sequence, &[1, 1]).0[13].to_string())).collect();
             let step = m.step(0);
-            let kept = m.session == before.session && m.flash == before.flash && m.memory == before.memory;
+            let kept = is_as_before(&m, &before);
             println!("version {version} events {events:02X} suspended {suspended}: commands 0 to 11, new and same number {}, step {step:?}, all kept {kept}", codes.join(" "));
         }
     }
@@ -473,7 +482,7 @@ fn list_checks(side: Side) {
                     }
                     let before = m.clone();
                     let answer = list_text(m.mark_list(list));
-                    format!("{answer}{}", if m.session == before.session && m.flash == before.flash && m.memory == before.memory { "" } else { "~" })
+                    format!("{answer}{}", if is_as_before(&m, &before) { "" } else { "~" })
                 });
                 println!("version {version} window {kind:?} suspended {suspended} B {lpc}: {}", answers.collect::<Vec<_>>().join(", "));
             }
@@ -546,6 +555,195 @@ fn largest(side: Side) {
     println!("new bytes: {}, the last old byte is {last}", m.flash.iter().filter(|b| **b == 0x22).count());
 }
 
+/// Five flash blocks and three window blocks, at this version, with a write window at blocks 1 to 3 that has these marks. These flash blocks are worn.
+fn with_worn(side: Side, version: u8, marks: [u8; 3], worn: &[usize]) -> Machine {
+    let mut m = Machine::new(side, 5 * BLOCK, 3 * BLOCK);
+    m.session = Session { version, previous: Some(9), kind: Kind::Write, first: 1, size: 3, ..Session::fresh() };
+    m.mark(0, &marks);
+    worn.iter().for_each(|block| m.worn[*block] = 1);
+    m
+}
+
+/// A command by itself, on one line with what it leaves.
+fn print_flush(mut m: Machine, code: u8, arguments: &[u16]) {
+    let (registers, actions) = m.send(code, 1, arguments);
+    let bytes = format!("flash {} memory {}", bytes_text(&m.flash), bytes_text(&m.memory));
+    println!("  {code} {arguments:?}: {} actions {actions}; {}; {bytes}", hex(&registers), session_text(&m.session));
+}
+
+/// Each command that flushes, a create inside the flash and past it, with worn blocks in every place.
+fn worn_places(side: Side) {
+    let places: [&[usize]; 7] = [&[], &[0, 4], &[1], &[2], &[3], &[1, 3], &[2, 3]];
+    let commands: [(u8, &[u16]); 6] = [(8, &[]), (5, &[]), (4, &[0]), (4, &[5]), (6, &[2]), (6, &[65535])];
+    for version in [1, 2] {
+        for marks in [[1, 2, 1], [2, 1, 2], [1, 0, 2], [0, 1, 1]] {
+            for worn in places {
+                println!("version {version} marks {marks:?} worn {worn:?}");
+                for (code, arguments) in commands {
+                    print_flush(with_worn(side, version, marks, worn), code, arguments);
+                }
+            }
+        }
+    }
+}
+
+/// FLUSH of version 1 with marks of its own: flash block and bytes.
+fn worn_own_marks(side: Side) {
+    let ranges = [[1, 4096, 0], [2, 4096, 0], [3, 1, 0], [1, 12288, 0], [2, 4097, 0], [3, 4097, 0], [0, 1, 0], [9, 0, 0]];
+    for worn in [&[][..], &[1], &[2], &[3]] {
+        println!("version 1 marks [0, 2, 0] worn {worn:?}");
+        for range in ranges {
+            print_flush(with_worn(side, 1, [0, 2, 0], worn), 8, &range);
+        }
+    }
+}
+
+/// Every command with all blocks of the window worn: what comes before WRITE_ERROR, and what does not flush. As in `refusals`.
+fn worn_order(side: Side) {
+    println!("marks [1, 2, 1], all blocks worn, commands 0 to 11; ~ where more than the previous number changed");
+    for (version, suspended) in (0..3).flat_map(|version| [(version, false), (version, true)]) {
+        for (sequence, argument) in [(1, 1), (1, 2), (1, 9), (9, 1)] {
+            let codes = (0..12).map(|code| {
+                let mut m = with_worn(side, version, [1, 2, 1], &[0, 1, 2, 3, 4]);
+                if suspended {
+                    suspend(&mut m);
+                }
+                let before = m.clone();
+                let answer = m.send(code, sequence, &[argument, 1]).0[13];
+                m.session.previous = before.session.previous;
+                format!("{answer}{}", if is_as_before(&m, &before) { "" } else { "~" })
+            });
+            let codes = codes.collect::<Vec<_>>().join(" ");
+            println!("version {version} suspended {suspended}, number {sequence}, arguments {argument} and 1: {codes}");
+        }
+    }
+}
+
+/// Every value of the map at a marked block, and at one without a mark.
+fn worn_values(side: Side) {
+    for (block, what) in [(1, "dirty"), (2, "clean"), (3, "erased"), (0, "before the window"), (4, "behind it")] {
+        for (code, arguments) in [(8, &[][..]), (5, &[1]), (4, &[5])] {
+            let answers: Vec<String> = (0..=255).map(|value| {
+                let mut m = with_worn(side, 2, [1, 0, 2], &[]);
+                m.worn[block] = value;
+                let (registers, actions) = m.send(code, 1, arguments);
+                format!("{} actions {actions}", registers[13])
+            }).collect();
+            println!("version 2 marks [1, 0, 2], the map at block {block}, {what}; {code} {arguments:?}: {}", runs_text(&answers));
+        }
+    }
+}
+
+/// Steps: each count by itself, then one after another up to the first that does nothing.
+fn worn_steps(side: Side) {
+    let places: [&[usize]; 7] = [&[], &[0, 4], &[1], &[2], &[3], &[1, 3], &[2, 3]];
+    for (version, suspended) in [(0, false), (1, false), (2, false), (2, true)] {
+        for worn in places {
+            let mut start = with_worn(side, version, [1, 2, 1], worn);
+            if suspended {
+                suspend(&mut start);
+            }
+            let answer = |done| start.clone().step(done);
+            let each: Vec<String> = (0..40).map(|done| format!("{:?}", answer(done))).collect();
+            let far = [1087, 1 << 32, u64::MAX].map(|done| format!("{:?}", answer(done))).join(" ");
+            println!("version {version} suspended {suspended} worn {worn:?}: steps {}; 1087, 2^32, 2^64 - 1: {far}", runs_text(&each));
+        }
+    }
+    println!("one after another, worn [3]; each page: o old, F all FF, n new");
+    let start = with_worn(side, 2, [1, 2, 1], &[3]);
+    let mut m = start.clone();
+    for done in 0..21 {
+        let answer = m.step(done);
+        let kept = m.session == start.session && m.memory == start.memory;
+        println!("  step {done}: {answer:?}, kept {kept}; {}", pages_text(&m.flash, &start.flash, &start.memory, 1));
+    }
+}
+
+/// Maps of every wrong kind of length, and of the right one: the codes of commands 0 to 11, of a step and of a list of marks.
+fn worn_lengths(side: Side) {
+    for (version, suspended) in [(0, false), (1, false), (2, false), (2, true)] {
+        for (length, value) in [(0, 0), (4, 0), (4, 1), (5, 0), (5, 1), (6, 0), (6, 1), (10, 0), (261, 0)] {
+            let mut start = with_worn(side, version, [1, 2, 1], &[]);
+            start.worn = vec![value; length];
+            if suspended {
+                suspend(&mut start);
+            }
+            let mut m = start.clone();
+            let codes: Vec<String> = (0..12).map(|code| start.clone().send(code, 1, &[1, 1]).0[13].to_string()).collect();
+            let (step, list) = (m.step(0), list_text(m.mark_list(&[0, 2])));
+            let kept = is_as_before(&m, &start);
+            println!("version {version} suspended {suspended} map of {length} bytes {value}: {}; step {step:?}, list {list}, kept by both {kept}", codes.join(" "));
+        }
+    }
+}
+
+/// Whole sessions: a map that the driver gives, a step by its count, what the host fills the window blocks with, and commands.
+const WORN_SESSIONS: [(&str, &str); 6] = [
+    ("FLUSH", "2 2|6 1 3|fill 161 162 163|7 0 3|map 0 0 1 0 0|8|8|step 0|map 0 0 0 0 0|step 0|8|8"),
+    ("CLOSE_WINDOW", "2 2|6 1 3|fill 161 162 163|7 0 1|10 1 1|7 2 1|map 0 0 255 0 0|5 0|5 2|5 1|7 1 1|map 0 0 0 0 0|5 1|5 0"),
+    ("creates", "2 2|6 1 3|fill 161 162 163|7 0 3|map 0 0 2 0 0|4 0 2|8|6 1 3|7 0 3|6 9|7 0 1|4 9|6 1 3|10 1 1|map 0 0 0 0 0|4 0 2"),
+    ("FLUSH of version 1", "2 1|6 1|fill 161 162 163|7 1 4096|map 0 0 0 128 0|8 2 8192|8|8 9 1|8 3 4096|map 0 0 0 0 0|8|5"),
+    ("blocks that wear one after another", "2 2|6 1 3|fill 161 162 163|10 0 3|map 0 0 0 1 0|8|map 0 1 1 0 0|8|7 0 2|8|map 0 1 0 0 0|8|1|8"),
+    ("lengths", "2 2|6 1 3|fill 161 162 163|7 0 3|map 0 0 0 0|8|5 0|6 1 3|step 0|2 1|map|8|map 0 0 0 0 0 0|8|map 0 0 0 0 0|8"),
+];
+
+/// Words with a space between them: a name and numbers, or numbers alone, which are a command's.
+fn worn_session(side: Side, name: &str, events: &str) {
+    println!("{name}, 5 flash blocks, window memory of 3");
+    let mut m = Machine::new(side, 5 * BLOCK, 3 * BLOCK);
+    for (sequence, event) in (1..).zip(events.split('|')) {
+        let numbers: Vec<u16> = event.split(' ').filter_map(|word| word.parse().ok()).collect();
+        let bytes: Vec<u8> = numbers.iter().map(|number| *number as u8).collect();
+        let answer = match event.split(' ').next() {
+            Some("map") => {
+                m.worn = bytes;
+                "the driver's".into()
+            }
+            Some("fill") => {
+                m.memory = bytes.iter().flat_map(|byte| [*byte; BLOCK]).collect();
+                "the host's".into()
+            }
+            Some("step") => format!("{:?}", m.step(numbers[0].into())),
+            _ => {
+                let (registers, actions) = m.send(bytes[0], sequence, &numbers[1..]);
+                format!("{} actions {actions}", registers[13])
+            }
+        };
+        println!("  {event}: {answer}; pending {}; {}; flash {}", m.pending(), session_text(&m.session), bytes_text(&m.flash));
+    }
+}
+
+/// 64 dirty blocks of which one is worn, or the one behind them: FLUSH, and all steps.
+fn worn_full(side: Side) {
+    println!("window 1 to 64 of 66 blocks, all dirty");
+    for block in [1, 2, 33, 64, 65] {
+        let mut m = Machine::new(side, 66 * BLOCK, 64 * BLOCK);
+        m.session = Session { version: 2, kind: Kind::Write, first: 1, size: 64, ..Session::fresh() };
+        m.mark(0, &[1; 64]);
+        m.worn[block] = 1;
+        let mut stepped = m.clone();
+        let steps = (0..1100).take_while(|done| stepped.step(*done).1).count();
+        let (registers, actions) = m.send(8, 1, &[]);
+        let same = m.flash == stepped.flash;
+        println!("  worn {block}: {} actions {actions}, as {steps} steps {same}; pending {}; flash {}", registers[13], m.pending(), bytes_text(&m.flash));
+    }
+}
+
+/// Worn blocks.
+fn worn(side: Side) {
+    println!("window 1 to 3 of 5 blocks, window memory of 3; each command by itself");
+    worn_places(side);
+    worn_own_marks(side);
+    worn_order(side);
+    worn_values(side);
+    worn_steps(side);
+    worn_lengths(side);
+    for (name, events) in WORN_SESSIONS {
+        worn_session(side, name, events);
+    }
+    worn_full(side);
+}
+
 fn main() {
     let arguments: Vec<String> = std::env::args().skip(1).collect();
     let side = match arguments.first().map(String::as_str) {
@@ -565,6 +763,7 @@ fn main() {
         Some("lists") => lists(side),
         Some("full") => full(side),
         Some("largest") => largest(side),
+        Some("worn") => worn(side),
         _ => panic!("no such section"),
     }
 }
