@@ -1,7 +1,7 @@
 /*
- * An example of a board's loop: it owns one session record, a flash image of 4 blocks and a window memory
- * of 2, and serves a fixed list of events, as a host might send them. tests/c_example.sh builds and runs
- * it and compares what it prints with expected.txt.
+ * An example of a board's loop: it owns one session record, a flash image of 4 blocks with its driver's map
+ * of worn blocks and a window memory of 2, and serves a fixed list of events, as a host might send them.
+ * tests/c_example.sh builds and runs it and compares what it prints with expected.txt.
  */
 #include <stdio.h>
 #include <string.h>
@@ -17,10 +17,15 @@
 static hiomap_record session;
 static uint8_t mailbox[HIOMAP_REGISTERS]; /* stands for the registers that the host sees */
 static uint8_t flash[FLASH_BLOCKS * HIOMAP_BLOCK_BYTES];
+static uint8_t worn[FLASH_BLOCKS]; /* the driver's map: 0 good */
 static uint8_t memory[MEMORY_BLOCKS * HIOMAP_BLOCK_BYTES];
 
 static hiomap_bytes whole_flash(void) {
     return (hiomap_bytes){flash, sizeof flash};
+}
+
+static hiomap_const_bytes worn_map(void) {
+    return (hiomap_const_bytes){worn, sizeof worn};
 }
 
 static const char *yes(bool answer) {
@@ -47,7 +52,7 @@ static void command(const uint8_t *sent, size_t count) {
 
     uint8_t registers[HIOMAP_REGISTERS];
     memcpy(registers, mailbox, sizeof registers);
-    uint32_t actions = hiomap_command(&session, &registers, LPC_BLOCK, TIMEOUT, whole_flash(),
+    uint32_t actions = hiomap_command(&session, &registers, LPC_BLOCK, TIMEOUT, whole_flash(), worn_map(),
                                       (hiomap_bytes){memory, sizeof memory});
     for (size_t i = 0; i < HIOMAP_REGISTERS; i++)
         if (i != HIOMAP_RESPONSE)
@@ -74,7 +79,7 @@ static void change_access(const char *name, hiomap_suspended (*call)(hiomap_reco
 }
 
 static hiomap_stepped step(uint64_t done) {
-    return hiomap_step(session, whole_flash(), (hiomap_const_bytes){memory, sizeof memory}, done);
+    return hiomap_step(session, whole_flash(), worn_map(), (hiomap_const_bytes){memory, sizeof memory}, done);
 }
 
 /* What a panel shows: the unsaved work, asked for as often as wanted. */
@@ -91,7 +96,7 @@ static const uint16_t many[2 * (HIOMAP_MOST_PAIRS + 1)]; /* pairs of window bloc
 /* A host that has saved many places at once hands over all of its marks: pairs of window block and number of blocks. */
 static void mark_list(const uint16_t *pairs, size_t numbers) {
     hiomap_list_reply answer = hiomap_mark_list(&session, (hiomap_const_numbers){pairs, numbers}, LPC_BLOCK, TIMEOUT,
-                                                 sizeof flash, sizeof memory);
+                                                 sizeof flash, sizeof worn, sizeof memory);
     printf("list of %zu numbers: %u", numbers, answer.code);
     if (answer.named)
         printf(", pair %u", answer.place);
@@ -114,6 +119,26 @@ static void print_flash(void) {
         printf(" %u", written);
     }
     printf("\n");
+}
+
+/* Both window blocks are marked when the driver finds the second one's flash block worn. What could not be flushed
+ * stays in the window until there is a good block for it; a create would lose it. */
+static void worn_block(void) {
+    memset(memory, 0x3C, 400);
+    memset(memory + HIOMAP_BLOCK_BYTES, 0xC3, 50);
+    MARK_LIST(0, 2);
+    worn[2] = 1;
+    COMMAND(8, 31);                   /* FLUSH, WRITE_ERROR: block 1 is done, block 2 keeps its bytes */
+    print_flash();
+    printf("marks %u %u\n", session.marks[0], session.marks[1]); /* and its mark */
+    print_pending();
+    hiomap_stepped failed = step(0);
+    printf("step %u %s\n", failed.code, yes(failed.acted));
+    COMMAND(5, 32, HIOMAP_CLOSE_NO_FLAGS); /* CLOSE_WINDOW, WRITE_ERROR: the window stays */
+    worn[2] = 0;                      /* the driver has put a spare block in its place, with the same bytes, */
+    COMMAND(8, 33);                   /* and FLUSH ends the job */
+    print_flash();
+    print_pending();
 }
 
 int main(void) {
@@ -170,6 +195,7 @@ int main(void) {
     print_pending();
     COMMAND(10, 13, 0, 0, 1, 0);      /* SEQ_ERROR: 13 is still the previous number, for the list has none */
     COMMAND(8, 30);                   /* FLUSH of both */
+    worn_block();
 
     change_access("suspend", hiomap_suspend);
     MARK_LIST(0, 1);                  /* BUSY */

@@ -22,7 +22,12 @@
 static kcs_port port;
 static hiomap_record session;
 static uint8_t flash[FLASH_BLOCKS * HIOMAP_BLOCK_BYTES];
+static uint8_t worn[FLASH_BLOCKS]; /* the flash driver's map: 0 good */
 static uint8_t memory[MEMORY_BLOCKS * HIOMAP_BLOCK_BYTES]; /* what the host sees over LPC */
+
+static hiomap_const_bytes worn_map(void) {
+    return (hiomap_const_bytes){worn, sizeof worn};
+}
 
 static void print_bytes(const uint8_t *bytes, size_t length) {
     for (size_t i = 0; i < length; i++)
@@ -65,7 +70,7 @@ static void board_turn(void) {
     waiting = 0;
     hiomap_message_reply reply =
         hiomap_message(&session, NETFN, IPMI_COMMAND, (hiomap_const_bytes){message, length}, LPC_BLOCK, TIMEOUT,
-                       (hiomap_bytes){flash, sizeof flash}, (hiomap_bytes){memory, sizeof memory});
+                       (hiomap_bytes){flash, sizeof flash}, worn_map(), (hiomap_bytes){memory, sizeof memory});
     actions = reply.actions;
     if (waiting == 0) /* where the host has given up it is refused; what the message did stays done */
         kcs_respond(&port, (kcs_bytes){reply.response, reply.length});
@@ -246,7 +251,7 @@ static void both_ways(const char *name, const uint8_t *message, size_t length) {
     memcpy(other_memory, memory, sizeof memory);
     memcpy(registers, message + HIOMAP_MESSAGE_COMMAND, length - HIOMAP_MESSAGE_COMMAND);
     uint32_t acted = hiomap_command(&other, &registers, LPC_BLOCK, TIMEOUT,
-                                    (hiomap_bytes){other_flash, sizeof other_flash},
+                                    (hiomap_bytes){other_flash, sizeof other_flash}, worn_map(),
                                     (hiomap_bytes){other_memory, sizeof other_memory});
     exchange(name, message, length);
     bool same = memcmp(&other, &session, sizeof session) == 0 && memcmp(other_flash, flash, sizeof flash) == 0 &&
@@ -338,6 +343,15 @@ static void not_served(void) {
     COMMAND("FLUSH", 8, 31); /* the number is new */
 }
 
+static void worn_block(void) {
+    printf("a worn block\n");
+    COMMAND("MARK_DIRTY", 7, 32, 0, 0, 1, 0);
+    worn[3] = 1;             /* the driver finds the window's block worn, */
+    COMMAND("FLUSH", 8, 33); /* 80 + 3: the window and its mark stay, */
+    worn[3] = 0;             /* until it has put a spare block in its place */
+    COMMAND("FLUSH", 8, 34);
+}
+
 int main(void) {
     memset(flash, 0xFF, sizeof flash);
     port = kcs_fresh();
@@ -349,9 +363,10 @@ int main(void) {
     another_lun();
     suspended();
     not_served();
+    worn_block();
     printf("a damaged record\n");
     session.window = 7;
-    COMMAND("GET_INFO", 2, 32, 2);
+    COMMAND("GET_INFO", 2, 35, 2);
     host_reset(); /* a fresh record mends it, and has no version yet */
     COMMAND("GET_FLASH_INFO, unknown here", 3, 1);
     print_blocks("flash", flash, FLASH_BLOCKS);
