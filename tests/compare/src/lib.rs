@@ -130,7 +130,7 @@ pub fn const_bytes(part: &[u8]) -> Bytes {
     bytes_of(part, part.len())
 }
 
-/// Bytes that begin as this part does, with any length: a call that reads them past its end fails.
+/// Bytes that begin as this part does, with any length: for a call that must not read them.
 pub fn bytes_of(part: &[u8], len: usize) -> Bytes {
     Bytes { data: part.as_ptr().cast_mut(), len }
 }

@@ -412,7 +412,7 @@ fn marked(version: u8, marks: [u8; 3]) -> Pair {
 
 /// What each call that flushes answers and leaves, by mailbox and by message, and then a few steps.
 fn flushes(pair: &Pair) -> Result<Vec<(Option<u8>, Pair)>, String> {
-    let commands: [(u8, &[u8]); 6] = [(4, &[0]), (4, &[5]), (5, &[]), (6, &[4]), (6, &[0xff, 0xff]), (8, &[])];
+    let commands: [(u8, &[u8]); 7] = [(4, &[0]), (4, &[5]), (5, &[]), (5, &[2]), (6, &[4]), (6, &[0xff, 0xff]), (8, &[])];
     let mut all = Vec::new();
     for (code, arguments) in commands {
         let sent = registers(code, 5, arguments);
@@ -452,12 +452,13 @@ fn worn_values() -> Result<(), String> {
     Ok(())
 }
 
-/// Every map of three worn blocks in five, with marks of each kind, and FLUSH at version 1 with marks of its own.
+/// Every set of worn blocks beside several marks, and FLUSH at version 1 with marks of its own.
 fn worn_places() -> Result<(), String> {
-    for (version, marks) in [1, 2].into_iter().flat_map(|version| [[1, 2, 1], [2, 1, 2], [2, 0, 1], [0, 0, 1], [0; 3]].map(|marks| (version, marks))) {
-        for places in 0..32 {
+    let all_marks = [[1, 2, 1], [2, 1, 2], [2, 0, 1], [0, 0, 1], [0; 3]];
+    for (version, marks) in [1, 2].into_iter().flat_map(|version| all_marks.map(|marks| (version, marks))) {
+        for set in 0..32 {
             let mut pair = marked(version, marks);
-            pair.wear(&[0, 1, 2, 3, 4].map(|block| (places >> block & 1) * 0x81));
+            pair.wear(&[0, 1, 2, 3, 4].map(|block| (set >> block & 1) * 0x81));
             flushes(&pair)?;
             for (first, bytes) in [(1, 0x10), (2, 0x10), (2, 0x11), (3, 0x10), (3, 0x11), (1, 0x30)] {
                 both_ways(&pair, registers(8, 5, &[first, 0, 0, bytes]))?;
@@ -490,8 +491,8 @@ fn endless_maps() -> Result<(), String> {
         let (mut flash, mut memory) = (pattern(3 * BLOCK, 10), pattern(2 * BLOCK, 90));
         let actions = unsafe { compare::hiomap_command(&mut held, &mut sent, 16, 8, bytes(&mut flash), worn(), bytes(&mut memory)) };
         let step = unsafe { compare::hiomap_step(held, bytes(&mut flash), worn(), bytes(&mut memory), 0) };
-        let (message, (flash_part, memory_part)) = (const_bytes(&message), (bytes(&mut flash), bytes(&mut memory)));
-        let reply = unsafe { compare::hiomap_message(&mut held, 0x3a, 0x5c, message, 16, 8, flash_part, worn(), memory_part) };
+        let (whole, window) = (bytes(&mut flash), bytes(&mut memory));
+        let reply = unsafe { compare::hiomap_message(&mut held, 0x3a, 0x5c, const_bytes(&message), 16, 8, whole, worn(), window) };
         let answers = (sent[13], actions, step.code, step.acted, reply.bytes().to_vec(), reply.actions);
         let kept = held == record(2, 2) && flash == pattern(3 * BLOCK, 10) && memory == pattern(2 * BLOCK, 90);
         if !kept || answers != (4, 0, 4, 0, vec![0xec, 0x5c, 0x84], 0) {

@@ -379,9 +379,9 @@ fn cut(r: &mut Random) -> Result<(), String> {
     let record = Record { version: r.below(3) as u8, ..write_window(r, s, c) };
     let size = record.size as usize;
     let n = second::flush_actions(&session_of(&record)) as u64;
-    let mut whole = flash.clone();
+    let (mut whole, good) = (flash.clone(), vec![0; s]);
     for j in 0..n {
-        compare::step(&record, &mut whole, &vec![0; s], &mut memory, j);
+        compare::step(&record, &mut whole, &good, &mut memory, j);
     }
     let mut worn = worn_map(r, s, &record);
     let (most, fails) = reached(&record, &worn);
