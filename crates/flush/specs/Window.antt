@@ -1,9 +1,9 @@
 -- The flush of a session's window: document 01, "Chip actions", and 02, Ticket 8.
 use Prim.Native.Nat.{ℕ, _+_}
 use mathlib.Core.Bool.{Bool, true, false, cond, not, _&&_}
-use mathlib.Core.List.{List}
+use mathlib.Core.List.{List, _++_}
 use lib.Dec.{ltb}
-use lib.ListN.{length, take, drop}
+use lib.ListN.{length, take, drop, replicate}
 use Rattle.buffers.specs.Ranges.{range, replace}
 use Rattle.units.specs.Units.{toBytes}
 use Rattle.session.specs.declared.Session.{Session}
@@ -92,9 +92,13 @@ pub record Flushed : Type 0 where
   pub marks : List ℕ
   pub flash : List ℕ
 
--- as the code has them
-abbrev pub flushLeft : Flush → List ℕ → Flushed
-flushLeft f flash = record { actions = f .actions; failed = f .failed; marks = f .marks; flash = flash }
+-- as the code has them: from how many of the 64 blocks come before the one that failed, 64 where none did, and the marks before the flush
+abbrev pub leftMarks : ℕ → List ℕ → List ℕ
+leftMarks finished marks = cond (ltb finished 64) (replicate finished 0 ++ drop finished marks) clean
+
+abbrev pub flushLeft : Session → Flush → List ℕ → Flushed
+flushLeft s f flash =
+    record { actions = f .actions; failed = ltb (f .finished) 64; marks = leftMarks (f .finished) (s .marks); flash = flash }
 
 -- all actions of a sound session's window, suspended or not, up to the first that fails: "The action count leaves out the failed erase" (02, Ticket
 -- 8). Where none fails no mark is left. Of any other session nothing is done, and its marks are not told (house: a command that flushes has passed the table)

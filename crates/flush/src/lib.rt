@@ -12,3 +12,4 @@ pub use window::Flush;
 pub use window::Step;
 pub use window::advance;
 pub use window::flush_window;
+pub use worn::left_marks;

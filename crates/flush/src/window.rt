@@ -3,7 +3,6 @@ use crate::marked::flush_marked;
 use crate::marked::step_marked;
 use crate::worn::finished_blocks;
 use crate::worn::first_marks;
-use crate::worn::last_marks;
 use session::Session;
 use session::none_marked;
 use soundness::is_sound;
@@ -31,11 +30,11 @@ pub enum Step {
     Failed,
 }
 
-// What a whole flush came to: the number of its actions, whether an erase failed, and the marks that are left.
+// What a whole flush came to: the number of its actions, and how many of the 64 blocks come before the one whose erase failed,
+// 64 where none did.
 pub struct Flush {
     pub actions: u32,
-    pub failed: bool,
-    pub marks: [u8; 64],
+    pub finished: u32,
 }
 
 // Advances the flush by one action, from the number of actions already done. Only the flash changes.
@@ -62,13 +61,12 @@ pub fn advance(session: Session, flash: &mut [u8], worn: &[u8], memory: &[u8], d
 
 // Does the actions of a sound session's window, suspended or not, up to the first that fails.
 pub fn flush_window(session: Session, flash: &mut [u8], worn: &[u8], memory: &[u8]) -> Flush
-    ensures { λ r. ⌜ flushLeft r (now (flash .exit)) ≡ flushWhole (lent session (now (flash .entry)) (now (worn .entry)) (now (memory .entry))) ⌝ }
+    ensures { λ r. ⌜ flushLeft session r (now (flash .exit)) ≡ flushWhole (lent session (now (flash .entry)) (now (worn .entry)) (now (memory .entry))) ⌝ }
 {
     if !is_sound(session, flash.len(), worn.len(), memory.len()) {
         return Flush {
             actions: 0,
-            failed: false,
-            marks: [0; 64],
+            finished: 64,
         };
     }
     // two numbers instead of 64 turns, where nothing is marked: half a microsecond of a create
@@ -76,26 +74,13 @@ pub fn flush_window(session: Session, flash: &mut [u8], worn: &[u8], memory: &[u
     if none_marked(counts) {
         return Flush {
             actions: 0,
-            failed: false,
-            marks: [0; 64],
+            finished: 64,
         };
     }
     let finished = finished_in(session, worn);
     let marks = session.marks;
     let actions = flush_part(session, first_marks(marks, finished), flash, memory);
-    if finished < 64 {
-        Flush {
-            actions,
-            failed: true,
-            marks: last_marks(marks, finished),
-        }
-    } else {
-        Flush {
-            actions,
-            failed: false,
-            marks: [0; 64],
-        }
-    }
+    Flush { actions, finished }
 }
 
 // How many blocks of a window that lies in the map come before the first whose erase fails.

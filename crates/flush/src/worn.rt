@@ -2,14 +2,14 @@
 use session::mark_erases;
 ghost use mathlib.Core.Path.{_≡_};
 ghost use mathlib.Core.Bool.{_&&_};
-ghost use mathlib.Core.List.{_++_};
 ghost use Prim.Native.Nat.{_-_, _≤_};
 ghost use lib.Dec.{ltb};
-ghost use lib.ListN.{take, drop, replicate};
+ghost use lib.ListN.{take, replicate};
 ghost use Rattle.buffers.specs.Ranges.{replace};
 ghost use Rattle.session.specs.Marks.{erases};
 ghost use Rattle.flush.specs.Actions.{flushActions};
 ghost use Rattle.flush.specs.Worn.{isWorn, someFail, finishedBlocks};
+ghost use Rattle.flush.specs.Window.{leftMarks};
 
 // How many blocks come before the first whose erase fails; all 64 where none does. The map is read at the blocks that are
 // to be erased, and at no others.
@@ -49,12 +49,15 @@ pub(crate) fn first_marks(marks: [u8; 64], count: u32) -> [u8; 64]
     without(marks, count as usize, 64)
 }
 
-// The marks of the blocks behind them.
-pub(crate) fn last_marks(marks: [u8; 64], count: u32) -> [u8; 64]
-    requires { ⌜ count ≤ 64 ⌝ }
-    ensures { λ r. ⌜ r ≡ replicate count 0 ++ drop count marks ⌝ }
+// The marks that a flush leaves that finished so many blocks: those behind them, and none where it finished all 64.
+pub fn left_marks(marks: [u8; 64], finished: u32) -> [u8; 64]
+    ensures { λ r. ⌜ r ≡ leftMarks finished marks ⌝ }
 {
-    without(marks, 0, count as usize)
+    if finished < 64 {
+        without(marks, 0, finished as usize)
+    } else {
+        [0; 64]
+    }
 }
 
 // The marks with those of some blocks cleared.

@@ -1,6 +1,7 @@
 // The answer to a command: the session, the registers and the number of chip actions.
 use crate::Answer;
 use flush::Flush;
+use flush::left_marks;
 use registers::NO_ARGUMENTS;
 use registers::replied;
 use session::Session;
@@ -9,7 +10,11 @@ use soundness::with_marks;
 ghost use mathlib.Core.Path.{_≡_};
 ghost use mathlib.Core.List.{[]};
 ghost use Rattle.session.specs.Record.{withMarks, dropWindow};
+ghost use Rattle.flush.specs.Window.{leftMarks};
 ghost use Rattle.mailbox.specs.Commands.{answerWith, answered};
+
+// The blocks that a flush finishes in which no erase fails.
+pub(crate) const ALL_BLOCKS: u32 = 64;
 
 // WRITE_ERROR: the erase of a worn block failed.
 pub(crate) const WRITE_ERROR: u8 = 3;
@@ -34,11 +39,11 @@ pub(crate) fn answer(
 
 // A flush that stopped at a worn block: the window stays, with the marks that are left.
 pub(crate) fn stopped(session: Session, registers: [u8; 16], flush: Flush) -> Answer
-    ensures { λ r. ⌜ r ≡ answered (withMarks (flush .marks) session) registers 3 [] (flush .actions) ⌝ }
+    ensures { λ r. ⌜ r ≡ answered (withMarks (leftMarks (flush .finished) (session .marks)) session) registers 3 [] (flush .actions) ⌝ }
 {
-    let marks = flush.marks;
+    let marks = session.marks;
     answer(
-        with_marks(session, marks),
+        with_marks(session, left_marks(marks, flush.finished)),
         registers,
         WRITE_ERROR,
         NO_ARGUMENTS,

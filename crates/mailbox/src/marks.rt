@@ -1,5 +1,6 @@
 // MARK_DIRTY, ERASE, FLUSH and ACK.
 use crate::Answer;
+use crate::answers::ALL_BLOCKS;
 use crate::answers::answer;
 use crate::answers::stopped;
 use crate::calls::Call;
@@ -159,7 +160,7 @@ fn flush_all(
     ensures { λ r. ⌜ outcome r (now (flash .exit)) (now (worn .entry)) (now (memory .entry)) ≡ flushedAll registers (lent session (now (flash .entry)) (now (worn .entry)) (now (memory .entry))) ⌝ }
 {
     let flush = flush_window(session, flash, worn, memory);
-    if flush.failed {
+    if flush.finished < ALL_BLOCKS {
         return stopped(session, registers, flush);
     }
     answer(

@@ -1,5 +1,6 @@
 // RESET, CREATE_READ_WINDOW, CREATE_WRITE_WINDOW and CLOSE_WINDOW.
 use crate::Answer;
+use crate::answers::ALL_BLOCKS;
 use crate::answers::WRITE_ERROR;
 use crate::answers::answer;
 use crate::answers::dropped;
@@ -166,7 +167,7 @@ fn close(
     ensures { λ r. ⌜ outcome r (now (flash .exit)) (now (worn .entry)) (now (memory .entry)) ≡ closed registers (lent session (now (flash .entry)) (now (worn .entry)) (now (memory .entry))) ⌝ }
 {
     let flush = flush_window(session, flash, worn, memory);
-    if flush.failed {
+    if flush.finished < ALL_BLOCKS {
         return stopped(session, registers, flush);
     }
     dropped(session, registers, 1, flush.actions)
@@ -183,7 +184,7 @@ fn close_first(
     ensures { λ r. ⌜ outcome r (now (flash .exit)) (now (worn .entry)) (now (memory .entry)) ≡ closingFirst 2 registers (lent session (now (flash .entry)) (now (worn .entry)) (now (memory .entry))) ⌝ }
 {
     let flush = flush_window(session, flash, worn, memory);
-    if flush.failed {
+    if flush.finished < ALL_BLOCKS {
         return dropped(session, registers, WRITE_ERROR, flush.actions);
     }
     dropped(session, registers, 2, flush.actions)
@@ -268,7 +269,7 @@ fn open_window(
         ≡ opening window first size (setUp board) registers (lent session (now (flash .entry)) (now (worn .entry)) (now (memory .entry))) ⌝ }
 {
     let flush = flush_window(session, flash, worn, memory);
-    if flush.failed {
+    if flush.finished < ALL_BLOCKS {
         return dropped(session, registers, WRITE_ERROR, flush.actions);
     }
     copy_blocks(flash, memory, first, size);

@@ -1,10 +1,11 @@
 -- `flush::window::flush_window` meets its contract.
 use mathlib.Core.Path.{_≡_, sym, ap, _∙_}
-use mathlib.Core.Bool.{true, false}
+use mathlib.Core.Bool.{true, cond}
 use mathlib.Core.List.{List, _++_}
 use Prim.Native.Nat.{ℕ}
 use borrow.Author.Needs.{needs}
-use borrow.Author.Tests.{not-true, not-false, lt-ltb, le-ltb}
+use borrow.Author.Tests.{not-true, not-false}
+use lib.Dec.{ltb}
 use lib.ListN.{length, drop, replicate}
 use Rattle.session.specs.Machine.{lent}
 use Rattle.session.specs.Record.{clean}
@@ -49,45 +50,24 @@ flush-part-requires c κs =
     let call = c .before .before .before .before .before .before .before .before .is-sound in
     part-within (length (a .flash .now)) (length (a .worn .now)) (length (a .memory .now)) (a .session) (sym (call .ensures) ∙ not-false (call .result) (c .before .before .before .before .before .before .before .if1 .left)) .0
 
-last-marks-requires : tie.Need-last-marks-requires
-last-marks-requires c κs = search needs
-
 same-length : tie.Need-same-length
 same-length c = search needs
 
 returns-3 : tie.Need-returns-3
 returns-3 c =
-    let a = c .before .before .before .before .before .before .before .before .before .before .before .before .before .before .before .before .before .args in
-    let checked = c .before .before .before .before .before .before .before .before .before .before .before .before .before .is-sound in
-    let stopped = c .before .before .before .before .before .before .before .before .finished-in in
-    let cut = c .before .before .before .before .before .before .first-marks in
-    let call = c .before .before .before .before .flush-part in
+    let a = c .before .before .before .before .before .before .before .before .before .before .before .before .before .before .before .args in
+    let checked = c .before .before .before .before .before .before .before .before .before .before .before .is-sound in
+    let stopped = c .before .before .before .before .before .before .finished-in in
+    let cut = c .before .before .before .before .first-marks in
+    let call = c .before .before .flush-part in
     let m = lent (a .session) (a .flash .now) (a .worn .now) (a .memory .now) in
-    let s : sound (length (a .flash .now)) (length (a .worn .now)) (length (a .memory .now)) (a .session) ≡ true = sym (checked .ensures) ∙ not-false (checked .result) (c .before .before .before .before .before .before .before .before .before .before .before .before .if1 .left) in
+    let s : sound (length (a .flash .now)) (length (a .worn .now)) (length (a .memory .now)) (a .session) ≡ true = sym (checked .ensures) ∙ not-false (checked .result) (c .before .before .before .before .before .before .before .before .before .before .if1 .left) in
     let done = cut .ensures ∙ first-done m (stopped .result) (stopped .ensures .0) in
     let number = call .ensures .0 ∙ ap (length {A = Action}) done in
     let flash = call .ensures .1 ∙ ap (λ (xs : List Action). performIn (a .session) (a .memory .now) xs (a .flash .now)) done in
-    let kept = c .last-marks .ensures ∙ ap (λ (n : ℕ). replicate n 0 ++ drop n (a .session .marks)) (stopped .ensures .0) in
-    (λ i. record { actions = number i; failed = true; marks = kept i; flash = flash i })
-    ∙ flushed-through m s true (stopped .ensures .2 ∙ lt-ltb (stopped .result) 64 (c .before .if3 .taken))
-
-same-length-2 : tie.Need-same-length-2
-same-length-2 c = search needs
-
-returns-4 : tie.Need-returns-4
-returns-4 c =
-    let a = c .before .before .before .before .before .before .before .before .before .before .before .before .before .before .before .before .args in
-    let checked = c .before .before .before .before .before .before .before .before .before .before .before .before .is-sound in
-    let stopped = c .before .before .before .before .before .before .before .finished-in in
-    let cut = c .before .before .before .before .before .first-marks in
-    let call = c .before .before .before .flush-part in
-    let m = lent (a .session) (a .flash .now) (a .worn .now) (a .memory .now) in
-    let s : sound (length (a .flash .now)) (length (a .worn .now)) (length (a .memory .now)) (a .session) ≡ true = sym (checked .ensures) ∙ not-false (checked .result) (c .before .before .before .before .before .before .before .before .before .before .before .if1 .left) in
-    let done = cut .ensures ∙ first-done m (stopped .result) (stopped .ensures .0) in
-    let number = call .ensures .0 ∙ ap (length {A = Action}) done in
-    let flash = call .ensures .1 ∙ ap (λ (xs : List Action). performIn (a .session) (a .memory .now) xs (a .flash .now)) done in
-    (λ i. record { actions = number i; failed = false; marks = clean; flash = flash i })
-    ∙ flushed-through m s false (stopped .ensures .2 ∙ le-ltb (stopped .result) 64 (c .if3 .left))
+    let kept = ap (λ (n : ℕ). replicate n 0 ++ drop n (a .session .marks)) (stopped .ensures .0) in
+    (λ i. record { actions = number i; failed = ltb (stopped .result) 64; marks = cond (ltb (stopped .result) 64) (kept i) clean; flash = flash i })
+    ∙ flushed-through m s (ltb (stopped .result) 64) (stopped .ensures .2)
 
 pub flush-window-spec : {M : Type 1} → statement M
 flush-window-spec =
@@ -100,8 +80,5 @@ flush-window-spec =
     finished-in-requires
     first-marks-requires
     flush-part-requires
-    last-marks-requires
     same-length
-    returns-3
-    same-length-2
-    returns-4)
+    returns-3)

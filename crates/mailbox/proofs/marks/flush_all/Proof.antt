@@ -2,6 +2,7 @@
 use mathlib.Core.Path.{sym, ap, _∙_}
 use mathlib.Core.List.{[]}
 use Rattle.session.specs.Record.{clean, withMarks}
+use borrow.Author.Tests.{lt-ltb, le-ltb}
 use Rattle.flush.specs.Window.{Flushed}
 use Rattle.mailbox.specs.Commands.{outcome, answered}
 use Rattle.session.specs.declared.Session.{Session}
@@ -20,9 +21,9 @@ same-length c = search needs
 
 returns : tie.Need-returns
 returns c =
-    let a = c .before .before .before .before .before .before .before .before .before .args in
-    let call = c .before .before .before .before .flush-window in
-    let failed = sym (ap (λ (f : Flushed). f .failed) (call .ensures)) ∙ c .before .if1 .taken in
+    let a = c .before .before .before .before .before .before .before .before .before .before .args in
+    let call = c .before .before .before .before .before .flush-window in
+    let failed = sym (ap (λ (f : Flushed). f .failed) (call .ensures)) ∙ lt-ltb (call .result .finished) 64 (c .before .if1 .taken) in
     rw failed
     ((λ i. outcome (c .stopped .ensures i) (call .last .1 .0) (a .worn .now) (a .memory .now))
     ∙ ap (λ (f : Flushed). outcome (answered (withMarks (f .marks) (a .session)) (a .registers) 3 [] (f .actions)) (f .flash) (a .worn .now) (a .memory .now)) (call .ensures))
@@ -38,9 +39,9 @@ same-length-2 c = search needs
 
 returns-2 : tie.Need-returns-2
 returns-2 c =
-    let a = c .before .before .before .before .before .before .before .before .before .before .args in
-    let call = c .before .before .before .before .before .flush-window in
-    let failed = sym (ap (λ (f : Flushed). f .failed) (call .ensures)) ∙ c .before .before .if1 .left in
+    let a = c .before .before .before .before .before .before .before .before .before .before .before .args in
+    let call = c .before .before .before .before .before .before .flush-window in
+    let failed = sym (ap (λ (f : Flushed). f .failed) (call .ensures)) ∙ le-ltb (call .result .finished) 64 (c .before .before .if1 .left) in
     let r = c .answer .ensures ∙ ap (λ (s : Session). answered s (a .registers) 1 [] (call .result .actions)) (c .before .without-marks .ensures) in
     rw failed
     ((λ i. outcome (r i) (call .last .1 .0) (a .worn .now) (a .memory .now))

@@ -2,6 +2,7 @@
 use mathlib.Core.Path.{sym, ap, _∙_}
 use mathlib.Core.List.{[]}
 use Rattle.session.specs.Record.{withMarks, dropWindow}
+use borrow.Author.Tests.{lt-ltb, le-ltb}
 use Rattle.flush.specs.Window.{Flushed}
 use Rattle.mailbox.specs.Commands.{outcome, answered}
 use borrow.Author.Needs.{needs}
@@ -19,9 +20,9 @@ same-length c = search needs
 
 returns : tie.Need-returns
 returns c =
-    let a = c .before .before .before .before .before .before .before .before .before .args in
-    let call = c .before .before .before .before .flush-window in
-    let failed = sym (ap (λ (f : Flushed). f .failed) (call .ensures)) ∙ c .before .if1 .taken in
+    let a = c .before .before .before .before .before .before .before .before .before .before .args in
+    let call = c .before .before .before .before .before .flush-window in
+    let failed = sym (ap (λ (f : Flushed). f .failed) (call .ensures)) ∙ lt-ltb (call .result .finished) 64 (c .before .if1 .taken) in
     rw failed
     ((λ i. outcome (c .stopped .ensures i) (call .last .1 .0) (a .worn .now) (a .memory .now))
     ∙ ap (λ (f : Flushed). outcome (answered (withMarks (f .marks) (a .session)) (a .registers) 3 [] (f .actions)) (f .flash) (a .worn .now) (a .memory .now)) (call .ensures))
@@ -34,9 +35,9 @@ same-length-2 c = search needs
 
 returns-2 : tie.Need-returns-2
 returns-2 c =
-    let a = c .before .before .before .before .before .before .before .before .before .args in
-    let call = c .before .before .before .before .flush-window in
-    let failed = sym (ap (λ (f : Flushed). f .failed) (call .ensures)) ∙ c .before .if1 .left in
+    let a = c .before .before .before .before .before .before .before .before .before .before .args in
+    let call = c .before .before .before .before .before .flush-window in
+    let failed = sym (ap (λ (f : Flushed). f .failed) (call .ensures)) ∙ le-ltb (call .result .finished) 64 (c .before .if1 .left) in
     rw failed
     ((λ i. outcome (c .dropped .ensures i) (call .last .1 .0) (a .worn .now) (a .memory .now))
     ∙ ap (λ (f : Flushed). outcome (answered (dropWindow (a .session)) (a .registers) 1 [] (f .actions)) (f .flash) (a .worn .now) (a .memory .now)) (call .ensures))

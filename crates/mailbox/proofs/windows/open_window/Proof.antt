@@ -5,6 +5,7 @@ use Rattle.session.specs.declared.Session.{Session}
 use Rattle.units.specs.Units.{toBytes}
 use Rattle.buffers.specs.Ranges.{range, replace}
 use Rattle.session.specs.Record.{withWindow, dropWindow}
+use borrow.Author.Tests.{lt-ltb, le-ltb}
 use Rattle.flush.specs.Window.{Flushed}
 use Rattle.mailbox.specs.Commands.{outcome, answered, createArguments}
 use borrow.Author.Needs.{needs}
@@ -25,9 +26,9 @@ same-length-2 c = search needs
 
 returns : tie.Need-returns
 returns c =
-    let a = c .before .before .before .before .before .before .before .before .before .before .args in
-    let call = c .before .before .before .before .flush-window in
-    let failed = sym (ap (λ (f : Flushed). f .failed) (call .ensures)) ∙ c .before .if1 .taken in
+    let a = c .before .before .before .before .before .before .before .before .before .before .before .args in
+    let call = c .before .before .before .before .before .flush-window in
+    let failed = sym (ap (λ (f : Flushed). f .failed) (call .ensures)) ∙ lt-ltb (call .result .finished) 64 (c .before .if1 .taken) in
     rw failed
     ((λ i. outcome (c .dropped .ensures i) (call .last .1 .0) (a .worn .now) (a .memory .now))
     ∙ ap (λ (f : Flushed). outcome (answered (dropWindow (a .session)) (a .registers) 3 [] (f .actions)) (f .flash) (a .worn .now) (a .memory .now)) (call .ensures))
@@ -49,10 +50,10 @@ same-length-4 c = search needs
 
 returns-2 : tie.Need-returns-2
 returns-2 c =
-    let a = c .before .before .before .before .before .before .before .before .before .before .before .before .before .before .before .before .args in
-    let call = c .before .before .before .before .before .before .before .before .before .before .flush-window in
+    let a = c .before .before .before .before .before .before .before .before .before .before .before .before .before .before .before .before .before .args in
+    let call = c .before .before .before .before .before .before .before .before .before .before .before .flush-window in
     let copy = c .before .before .before .before .copy-blocks in
-    let failed = sym (ap (λ (f : Flushed). f .failed) (call .ensures)) ∙ c .before .before .before .before .before .before .before .if1 .left in
+    let failed = sym (ap (λ (f : Flushed). f .failed) (call .ensures)) ∙ le-ltb (call .result .finished) 64 (c .before .before .before .before .before .before .before .if1 .left) in
     let r = c .open-answer .ensures
     ∙ ap (λ (s : Session). answered s (a .registers) 1 (createArguments (s .version) (a .board .lpc) (s .size) (s .first)) (call .result .actions)) (c .before .with-window .ensures) in
     rw failed
