@@ -4,7 +4,7 @@ use mathlib.Core.Bool.{Bool, true, false, cond, not, _&&_, _||_, true≢false, f
 use mathlib.Core.List.{List, [], _∷_, _++_}
 use mathlib.Core.Logic.{_⊎_, inl, inr, ⊎-elim}
 use mathlib.Core.Option.{Option, none, some}
-use Prim.Native.Nat.{ℕ, zero, suc, _+_, _*_, _≤_, _<_, min}
+use Prim.Native.Nat.{ℕ, zero, suc, _+_, _≤_, _<_, min}
 use native.Mathlib.Omega.{arith}
 use lib.Dec.{ltb, eqb}
 use lib.ListN.{length, getD, take, drop, replicate, length-replicate, drop-of-length-le}
@@ -16,14 +16,14 @@ use Rattle.session.specs.declared.Session.{Session}
 use Rattle.session.specs.declared.Window.{Window}
 use Rattle.session.specs.declared.Window.the-variants.{Read, Write}
 use Rattle.session.specs.Machine.{Setup, Machine, lent, holding, wearing}
-use Rattle.session.specs.Marks.{dirty, isMarked, marksOf}
+use Rattle.session.specs.Marks.{dirty, isMarked}
 use Rattle.session.specs.declared.Previous.the-variants.{Number}
 use Rattle.session.specs.Record.{clean, withPrevious, withMarks}
 use Rattle.soundness.specs.Soundness.{marksSound, sessionSound, sound, soundAt, soundIn}
-use Rattle.soundness.proofs.Facts.{sizes, measured}
+use Rattle.soundness.proofs.Facts.{sizes}
 use Rattle.flush.specs.Actions.{Action, flushActions}
 use Rattle.flush.specs.Worn.{someFail, finishedBlocks, marksKept}
-use Rattle.flush.specs.Window.{windowActions, performIn, windowWorn, doneActions, flushFails, hasNext, performNext, Advanced, advanced, flushWhole}
+use Rattle.flush.specs.Window.{windowActions, performIn, windowWorn, doneActions, flushFails, hasNext, performNext, advanced, flushWhole}
 use Rattle.flush.proofs.Bytes.{AllIn}
 use Rattle.flush.proofs.Cuts.{all-flush, all-take}
 use Rattle.flush.proofs.Failing.{until-all, until-first, some-none, done-and-kept}
