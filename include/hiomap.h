@@ -9,8 +9,9 @@
  * take a record by value leave the caller's alone; a suspend or resume gives the new one back.
  *
  * Worn blocks. The flash driver keeps a map of them, one byte for each flash block: 0 good, any other value worn. The
- * map is only read, and the driver may change it between the calls. Its length must be the number of flash blocks. An
- * erase of a worn block fails and changes nothing, and a flush stops there; writing pages never fails.
+ * map is only read, and the driver may change it between the calls (between the steps of one flush see hiomap_step).
+ * Its length must be the number of flash blocks. An erase of a worn block fails and changes nothing, and a flush stops
+ * there; writing pages never fails.
  *
  * What the caller must see to, since nothing here can check it:
  *   - pointers are not null, aligned for their type, and lead to initialised memory of the stated size,
@@ -247,7 +248,8 @@ hiomap_record hiomap_fresh(void);
  *   memory     the whole window memory, 1 to 64 blocks; a create and an ERASE change it
  * FLUSH and CLOSE_WINDOW answer WRITE_ERROR where the erase of a worn block fails: the blocks before it are flushed and
  * clean, that one and those behind it keep their marks, and the window stays. A create answers it too, before the check
- * of its own argument, and leaves no window and no marks. The number of chip actions leaves out the failed erase.
+ * of its own argument, and leaves no window and no marks, and the window memory as it was. The number of chip actions
+ * leaves out the failed erase.
  */
 uint32_t hiomap_command(hiomap_record *record, uint8_t (*registers)[HIOMAP_REGISTERS], uint16_t lpc, uint16_t timeout,
                         hiomap_bytes flash, hiomap_const_bytes worn, hiomap_bytes memory);
@@ -310,10 +312,14 @@ hiomap_suspended hiomap_resume_changed(hiomap_record record);
  *   flash      the whole flash image; the action changes it
  *   worn       the map of worn blocks, a byte for each flash block, else the answer is 4; only read
  *   memory     the whole window memory; only read
- *   done       how many actions were done before: the caller counts one for each answer with `acted`
- * Where the erase of a worn block fails, a step answers 3 from that erase on, without an action, and changes nothing.
- * The record has no change, and the marks stay: a FLUSH after the steps does all actions again. Whoever clears the
- * marks by hand instead sets `dirty` and `erased` to 0 with them.
+ *   done       how many actions were done before: the caller counts one for each answer with `acted` whose action the
+ *              chip did
+ * Where the erase of a worn block fails, a step answers 3 from that erase on, without an action, and changes nothing;
+ * 4 and, while suspended, 6 come before it. Each step goes by the map that it is given, from the first mark on: a block
+ * that is done and then called worn stops all steps behind it.
+ * The record has no change, and the marks stay: a FLUSH after the steps does all actions again. Whoever clears marks by
+ * hand instead sets `dirty` and `erased` to the numbers of those that are left: all marks after an answer 1 without an
+ * action, after 3 only those before the worn block.
  */
 hiomap_stepped hiomap_step(hiomap_record record, hiomap_bytes flash, hiomap_const_bytes worn, hiomap_const_bytes memory,
                            uint64_t done);
