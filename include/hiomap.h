@@ -318,8 +318,8 @@ hiomap_suspended hiomap_resume_changed(hiomap_record record);
  * 4 and, while suspended, 6 come before it. Each step goes by the map that it is given, from the first mark on: a block
  * that is done and then called worn stops all steps behind it.
  * The record has no change, and the marks stay: a FLUSH after the steps does all actions again. Whoever clears marks by
- * hand instead sets `dirty` and `erased` to the numbers of those that are left: all marks after an answer 1 without an
- * action, after 3 only those before the worn block.
+ * hand instead clears all of them after an answer 1 without an action, after 3 only those before the worn block, and
+ * sets `dirty` and `erased` to the numbers of the marks that are left.
  */
 hiomap_stepped hiomap_step(hiomap_record record, hiomap_bytes flash, hiomap_const_bytes worn, hiomap_const_bytes memory,
                            uint64_t done);
