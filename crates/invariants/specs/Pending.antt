@@ -99,7 +99,7 @@ Tells setup registers m = pendingIn (m .session) ≡ Marked (markedBlocks (m .se
 
 -- to a FLUSH (8) "that adds no mark", among them every one of version 2 and with L = 0 (2-5), and where L names only blocks that are dirty already; to a
 -- CLOSE_WINDOW (5) and a create, which close the window; and to a create that is refused for its argument. Each where it does not answer WRITE_ERROR (3):
--- "Ticket 2's lamp counts as if no block were worn" (02, Ticket 8)
+-- what is told "counts as if no block were worn" (02, Ticket 8)
 abbrev pub PendingCarried : Type 0
 PendingCarried =
     (setup : Setup) (registers : List ℕ) (m : Machine)

@@ -189,7 +189,7 @@ pub fn sound_with_lpc(
     sound(s, flash_len, worn_len, window_len) && usize::from(b) + window_len / BLOCK <= 65_536
 }
 
-/// The lamp (ticket 2): how many blocks are marked and how many chip actions a
+/// What is pending (ticket 2): how many blocks are marked and how many chip actions a
 /// flush would take, from the kept numbers. None, "unsound", exactly where these
 /// disagree with the marks; nothing else in the record is looked at. It counts as
 /// if no block were worn (ticket 8).
@@ -2217,8 +2217,8 @@ flash 0 0 0 300
 
     // --------------------------------------------------------- 02, ticket 2
 
-    /// The kept numbers are a full count, and the lamp answers by 17 and 1.
-    fn lamp_is_right(s: &Session) {
+    /// The kept numbers are a full count, and `pending` answers by 17 and 1.
+    fn pending_is_right(s: &Session) {
         let (dirty, erased) = full_count(s);
         assert_eq!((s.dirty, s.erased), (dirty, erased));
         let (dirty, erased) = (u32::from(dirty), u32::from(erased));
@@ -2226,27 +2226,27 @@ flash 0 0 0 300
     }
 
     /// S = 6, C = 4, a write window of 4 blocks at 1: dirty, clean, erased, dirty.
-    fn lamp_rig(version: u8) -> Rig {
+    fn pending_rig(version: u8) -> Rig {
         let mut rig = cut_rig([1, 0, 2, 1]);
         rig.s.version = version;
         assert_eq!((rig.s.dirty, rig.s.erased), (2, 1));
         rig
     }
 
-    /// Kept numbers for `lamp_rig` that are not (2, 1).
+    /// Kept numbers for `pending_rig` that are not (2, 1).
     const WRONG: [(u8, u8); 10] = [
         (1, 1), (3, 1), (2, 0), (2, 2), (1, 2), (3, 0), (0, 0), (255, 1), (2, 255), (255, 255),
     ];
 
     #[test]
-    fn lamp_of_a_fresh_session() {
+    fn pending_of_a_fresh_session() {
         let s = Session::fresh();
         assert_eq!((s.dirty, s.erased), (0, 0));
         assert_eq!(pending(&s), Some((0, 0)));
     }
 
     #[test]
-    fn lamp_takes_the_latest_mark() {
+    fn pending_takes_the_latest_mark() {
         let (d, e) = (MARK_DIRTY, ERASE);
         let cases: [(&[u8], _, _); 6] = [
             (&[d], (1, 0), (1, 17)),
@@ -2256,22 +2256,22 @@ flash 0 0 0 300
             (&[d, d], (1, 0), (1, 17)),
             (&[e, d, e, e], (0, 1), (1, 1)),
         ];
-        for (codes, numbers, lamp) in cases {
+        for (codes, numbers, told) in cases {
             let mut rig = Rig::open(2, Kind::Write, 0, 2);
             for &code in codes {
                 assert_eq!(rig.code(code, &wk(1, 1)), SUCCESS);
             }
             assert_eq!((rig.s.dirty, rig.s.erased), numbers);
-            assert_eq!(pending(&rig.s), Some(lamp));
+            assert_eq!(pending(&rig.s), Some(told));
             assert_eq!(rig.code(FLUSH, &[]), SUCCESS);
-            assert_eq!(rig.actions, lamp.1);
+            assert_eq!(rig.actions, told.1);
             assert_eq!(pending(&rig.s), Some((0, 0)));
         }
     }
 
     /// Every command with every range over every row of marks, refused ones too.
     #[test]
-    fn lamp_after_every_range() {
+    fn pending_after_every_range() {
         for marks in all_marks() {
             let start = cut_rig(marks);
             for code in [MARK_DIRTY, ERASE] {
@@ -2279,7 +2279,7 @@ flash 0 0 0 300
                     let mut rig = start.clone();
                     let good = w + k <= 4;
                     assert_eq!(rig.code(code, &wk(w, k)) == SUCCESS, good);
-                    lamp_is_right(&rig.s);
+                    pending_is_right(&rig.s);
                     if !good || k == 0 {
                         assert_eq!(pending(&rig.s), pending(&start.s));
                     }
@@ -2289,26 +2289,26 @@ flash 0 0 0 300
     }
 
     #[test]
-    fn lamp_at_its_largest() {
+    fn most_pending() {
         let mut rig = Rig::sized(2, 64, 64);
         assert_eq!(rig.code(CREATE_WRITE, &wk(0, 0)), SUCCESS);
-        for (code, numbers, lamp) in [
+        for (code, numbers, told) in [
             (MARK_DIRTY, (64, 0), (64, 1_088)),
             (ERASE, (0, 64), (64, 64)),
             (MARK_DIRTY, (64, 0), (64, 1_088)),
         ] {
             assert_eq!(rig.code(code, &wk(0, 64)), SUCCESS);
             assert_eq!((rig.s.dirty, rig.s.erased), numbers);
-            assert_eq!(pending(&rig.s), Some(lamp));
+            assert_eq!(pending(&rig.s), Some(told));
             assert_eq!(rig.code(code, &wk(64, 0)), SUCCESS);
-            assert_eq!(pending(&rig.s), Some(lamp));
+            assert_eq!(pending(&rig.s), Some(told));
         }
         assert_eq!(rig.code(CLOSE, &[]), SUCCESS);
         assert_eq!((rig.actions, pending(&rig.s)), (1_088, Some((0, 0))));
     }
 
     #[test]
-    fn lamp_at_version_1() {
+    fn pending_at_version_1() {
         let mut rig = Rig::open(1, Kind::Write, 1, 2);
         assert_eq!(rig.code(MARK_DIRTY, &al(1, 0)), SUCCESS);
         assert_eq!(pending(&rig.s), Some((0, 0)));
@@ -2327,8 +2327,8 @@ flash 0 0 0 300
 
     /// Of all pairs of kept numbers only the right one is answered.
     #[test]
-    fn lamp_is_unsound_for_any_other_number() {
-        let mut s = lamp_rig(2).s;
+    fn pending_is_unsound_for_any_other_number() {
+        let mut s = pending_rig(2).s;
         for dirty in 0..=255 {
             for erased in 0..=255 {
                 (s.dirty, s.erased) = (dirty, erased);
@@ -2340,9 +2340,9 @@ flash 0 0 0 300
         }
     }
 
-    /// The lamp looks at nothing but marks and kept numbers.
+    /// `pending` looks at nothing but marks and kept numbers.
     #[test]
-    fn lamp_answers_other_unsound_records() {
+    fn pending_answers_other_unsound_records() {
         let changes: [(Change, (u32, u32)); 9] = [
             (&|s| s.version = 7, (3, 35)),
             (&|s| s.events ^= 0x40, (3, 35)),
@@ -2354,17 +2354,17 @@ flash 0 0 0 300
             (&|s| put_mark(s, 4, ERASED), (4, 36)),
             (&|s| put_mark(s, 1, 9), (3, 35)),
         ];
-        for (change, lamp) in changes {
-            let mut s = lamp_rig(2).s;
+        for (change, told) in changes {
+            let mut s = pending_rig(2).s;
             change(&mut s);
             assert!(!sound(&s, 6 * BLOCK, 6, 4 * BLOCK));
-            assert_eq!(pending(&s), Some(lamp));
+            assert_eq!(pending(&s), Some(told));
             s.erased -= 1;
             assert_eq!(pending(&s), None);
             s.erased += 2;
             assert_eq!(pending(&s), None);
         }
-        let mut s = lamp_rig(2).s;
+        let mut s = pending_rig(2).s;
         s.marks[63] = DIRTY;
         assert_eq!(pending(&s), None);
         s.marks = [255; 64];
@@ -2377,7 +2377,7 @@ flash 0 0 0 300
     fn wrong_numbers_are_system_error_for_every_command() {
         for version in 0..=2 {
             for numbers in WRONG {
-                let mut rig = lamp_rig(version);
+                let mut rig = pending_rig(version);
                 (rig.s.dirty, rig.s.erased) = numbers;
                 rig.s.previous = Some(4);
                 let before = rig.clone();
@@ -2415,7 +2415,7 @@ flash 0 0 0 300
     #[test]
     fn order_wrong_numbers_before_everything_else() {
         for (version, repeated, busy) in [(2, 8, 6), (1, 2, 5), (0, 2, 5)] {
-            let mut rig = lamp_rig(version);
+            let mut rig = pending_rig(version);
             assert!(suspend(&mut rig.s));
             rig.s.previous = Some(7);
             rig.s.erased = 0;
@@ -2434,7 +2434,7 @@ flash 0 0 0 300
     fn wrong_numbers_are_4_for_every_step() {
         for version in 0..=2 {
             for numbers in WRONG {
-                let mut rig = lamp_rig(version);
+                let mut rig = pending_rig(version);
                 (rig.s.dirty, rig.s.erased) = numbers;
                 let before = rig.clone();
                 for done in [0, 1, 17, 18, 34, 35, 36, u64::MAX] {
@@ -2449,10 +2449,10 @@ flash 0 0 0 300
         }
     }
 
-    /// Steps change the flash, never the marks: the lamp stays lit.
+    /// Steps change the flash, never the marks: as much stays pending.
     #[test]
-    fn steps_keep_the_lamp() {
-        let mut rig = lamp_rig(2);
+    fn steps_keep_what_is_pending() {
+        let mut rig = pending_rig(2);
         let before = rig.s.clone();
         for done in 0..36 {
             assert_eq!(rig.step(done), (SUCCESS, done < 35));
@@ -2474,7 +2474,7 @@ flash 0 0 0 300
         ];
         for version in 1..=2 {
             for (code, args, answer, actions) in &commands {
-                let mut rig = lamp_rig(version);
+                let mut rig = pending_rig(version);
                 assert_eq!(pending(&rig.s), Some((3, 35)));
                 assert_eq!(rig.code(*code, args), *answer);
                 assert_eq!(rig.actions, *actions);
@@ -2483,7 +2483,7 @@ flash 0 0 0 300
                 assert_eq!(rig.code(ACK, &[0]), SUCCESS);
             }
         }
-        let mut rig = lamp_rig(0);
+        let mut rig = pending_rig(0);
         assert_eq!(rig.code(RESET, &[]), SUCCESS);
         assert_eq!((rig.s.dirty, rig.s.erased), (0, 0));
     }
@@ -2492,14 +2492,14 @@ flash 0 0 0 300
     fn other_commands_keep_the_numbers() {
         for version in 0..=2 {
             for highest in [1, 2, 255] {
-                let mut rig = lamp_rig(version);
+                let mut rig = pending_rig(version);
                 assert_eq!(rig.code(GET_INFO, &[highest]), SUCCESS);
                 assert_eq!((rig.s.dirty, rig.s.erased), (2, 1));
                 assert_eq!(rig.code(GET_FLASH_INFO, &[]), SUCCESS);
                 assert_eq!(rig.code(ACK, &[0xFF]), SUCCESS);
                 assert_eq!(pending(&rig.s), Some((3, 35)));
             }
-            let mut rig = lamp_rig(version);
+            let mut rig = pending_rig(version);
             refuses(&mut rig, GET_INFO, &[0], PARAM_ERROR);
             refuses(&mut rig, 99, &[], PARAM_ERROR);
             assert!(suspend(&mut rig.s));
@@ -2510,10 +2510,10 @@ flash 0 0 0 300
             assert!(resume(&mut rig.s));
             assert_eq!(pending(&rig.s), Some((3, 35)));
         }
-        let mut rig = lamp_rig(2);
+        let mut rig = pending_rig(2);
         refuses(&mut rig, CLOSE, &[2], PARAM_ERROR);
         refuses(&mut rig, ERASE, &wk(3, 2), PARAM_ERROR);
-        lamp_is_right(&rig.s);
+        pending_is_right(&rig.s);
     }
 
     /// They act on any record: the drop makes wrong numbers 0, nothing else does.
@@ -2521,7 +2521,7 @@ flash 0 0 0 300
     fn suspend_and_resume_on_wrong_numbers() {
         for (dirty, erased) in WRONG {
             for version in [2, 7] {
-                let mut start = lamp_rig(version).s;
+                let mut start = pending_rig(version).s;
                 (start.dirty, start.erased) = (dirty, erased);
                 let mut s = start.clone();
                 assert!(!resume(&mut s) && !resume_changed(&mut s));
@@ -2554,7 +2554,7 @@ flash 0 0 0 300
         let mut before = rig.clone();
         assert_eq!(rig.list(list), (SUCCESS, None));
         assert_eq!(marks(rig, expected.len()), expected);
-        lamp_is_right(&rig.s);
+        pending_is_right(&rig.s);
         before.s.marks = rig.s.marks;
         recount(&mut before.s);
         assert!(*rig == before, "more than the marks changed");
@@ -2592,10 +2592,10 @@ flash 0 0 0 300
     /// The refusals that do not look at the list come to an empty one too.
     #[test]
     fn list_empty_is_refused_for_the_session() {
-        list_refuses(&mut Rig { b: 65_535, ..lamp_rig(2) }, &[], SYSTEM_ERROR, None);
-        list_refuses(&mut lamp_rig(0), &[], PARAM_ERROR, None);
-        list_refuses(&mut lamp_rig(1), &[], PARAM_ERROR, None);
-        let mut rig = lamp_rig(2);
+        list_refuses(&mut Rig { b: 65_535, ..pending_rig(2) }, &[], SYSTEM_ERROR, None);
+        list_refuses(&mut pending_rig(0), &[], PARAM_ERROR, None);
+        list_refuses(&mut pending_rig(1), &[], PARAM_ERROR, None);
+        let mut rig = pending_rig(2);
         assert!(suspend(&mut rig.s));
         list_refuses(&mut rig, &[], BUSY, None);
         list_refuses(&mut Rig::new(2), &[], WINDOW_ERROR, None);
@@ -2605,7 +2605,7 @@ flash 0 0 0 300
     #[test]
     fn list_order_system_error_before_version() {
         for version in [0, 1] {
-            let mut rig = lamp_rig(version);
+            let mut rig = pending_rig(version);
             rig.b = 65_533;
             list_refuses(&mut rig, &[0, 1], SYSTEM_ERROR, None);
             rig.b = 65_532;
@@ -2613,14 +2613,14 @@ flash 0 0 0 300
             rig.s.dirty = 3;
             list_refuses(&mut rig, &[0, 1], SYSTEM_ERROR, None);
         }
-        list_refuses(&mut lamp_rig(3), &[0, 1], SYSTEM_ERROR, None);
-        list_refuses(&mut lamp_rig(255), &[0, 1], SYSTEM_ERROR, None);
+        list_refuses(&mut pending_rig(3), &[0, 1], SYSTEM_ERROR, None);
+        list_refuses(&mut pending_rig(255), &[0, 1], SYSTEM_ERROR, None);
     }
 
     #[test]
     fn list_order_version_before_suspended() {
         for version in [0, 1] {
-            let mut rig = lamp_rig(version);
+            let mut rig = pending_rig(version);
             assert!(suspend(&mut rig.s));
             list_refuses(&mut rig, &[0, 1], PARAM_ERROR, None);
             rig.s.version = 2;
@@ -2652,7 +2652,7 @@ flash 0 0 0 300
     /// Bad from the first pair on, and no place is named until the length is good.
     #[test]
     fn list_order_length_before_pairs() {
-        let mut rig = lamp_rig(2);
+        let mut rig = pending_rig(2);
         for length in [1, 3, 127, 129, 130, 131, 132, 1_000] {
             list_refuses(&mut rig, &vec![65_535; length], PARAM_ERROR, None);
         }
@@ -2757,7 +2757,7 @@ flash 0 0 0 300
             &|s| s.marks[1] = DIRTY,
         ];
         for change in changes {
-            let mut rig = lamp_rig(2);
+            let mut rig = pending_rig(2);
             change(&mut rig.s);
             for list in [vec![], vec![0], vec![0, 1], vec![4, 1], vec![0, 0, 65_535, 65_535]] {
                 list_refuses(&mut rig, &list, SYSTEM_ERROR, None);
@@ -2767,7 +2767,7 @@ flash 0 0 0 300
             assert_eq!(rig.code(MARK_DIRTY, &wk(0, 1)), SYSTEM_ERROR);
         }
         for (dirty, erased) in WRONG {
-            let mut rig = lamp_rig(2);
+            let mut rig = pending_rig(2);
             (rig.s.dirty, rig.s.erased) = (dirty, erased);
             list_refuses(&mut rig, &[0, 1], SYSTEM_ERROR, None);
         }
@@ -2793,7 +2793,7 @@ flash 0 0 0 300
     /// Every length up to 300 of pairs that are all good.
     #[test]
     fn list_lengths() {
-        let start = lamp_rig(2);
+        let start = pending_rig(2);
         for length in 0..300 {
             let mut rig = start.clone();
             let list: Vec<u16> = (0..length).map(|n| n as u16 % 2).collect();
@@ -2814,10 +2814,10 @@ flash 0 0 0 300
         for length in [1 << 20, (1 << 20) - 1, (1 << 20) + 1, 65_536, 65_536 + 2, 65_536 + 128] {
             for value in [0, 65_535] {
                 let list = vec![value; length];
-                list_refuses(&mut lamp_rig(2), &list, PARAM_ERROR, None);
+                list_refuses(&mut pending_rig(2), &list, PARAM_ERROR, None);
                 list_refuses(&mut Rig::new(2), &list, WINDOW_ERROR, None);
-                list_refuses(&mut lamp_rig(1), &list, PARAM_ERROR, None);
-                list_refuses(&mut lamp_rig(3), &list, SYSTEM_ERROR, None);
+                list_refuses(&mut pending_rig(1), &list, PARAM_ERROR, None);
+                list_refuses(&mut pending_rig(3), &list, SYSTEM_ERROR, None);
             }
         }
     }
@@ -2854,7 +2854,7 @@ flash 0 0 0 300
             (32_769, 32_768),
             (65_534, 4),
         ];
-        let (mut rig, mut wide) = (lamp_rig(2), wide_rig());
+        let (mut rig, mut wide) = (pending_rig(2), wide_rig());
         for (w, k) in past {
             list_refuses(&mut rig, &[w, k], PARAM_ERROR, Some(0));
             list_refuses(&mut rig, &[1, 1, w, k, 1, 1], PARAM_ERROR, Some(1));
@@ -2877,8 +2877,8 @@ flash 0 0 0 300
             }
             list_refuses(&mut rig, &list, PARAM_ERROR, Some(place));
         }
-        list_refuses(&mut lamp_rig(2), &[0, 4, 0, 5, 1, 4], PARAM_ERROR, Some(1));
-        list_refuses(&mut lamp_rig(2), &[0, 4, 4, 0, 1, 4], PARAM_ERROR, Some(2));
+        list_refuses(&mut pending_rig(2), &[0, 4, 0, 5, 1, 4], PARAM_ERROR, Some(1));
+        list_refuses(&mut pending_rig(2), &[0, 4, 4, 0, 1, 4], PARAM_ERROR, Some(2));
     }
 
     #[test]
@@ -2897,7 +2897,7 @@ flash 0 0 0 300
     #[test]
     fn list_keeps_the_previous_number() {
         for previous in [None, Some(0), Some(1), Some(7), Some(255)] {
-            let mut rig = lamp_rig(2);
+            let mut rig = pending_rig(2);
             rig.s.previous = previous;
             list_marks(&mut rig, &[1, 1], &[1, 1, 2, 1]);
             list_marks(&mut rig, &[], &[1, 1, 2, 1]);
@@ -2941,7 +2941,7 @@ flash 0 0 0 300
     }
 
     #[test]
-    fn list_at_the_lamps_largest() {
+    fn list_at_the_most_pending() {
         let mut rig = wide_rig();
         assert_eq!(rig.code(ERASE, &wk(0, 64)), SUCCESS);
         assert_eq!(pending(&rig.s), Some((64, 64)));
@@ -3009,7 +3009,7 @@ flash 0 0 0 300
         assert_eq!(rig.actions as usize, flushed.actions);
         assert!(rig.flash == flushed.flash && rig.window == start.window);
         assert!(rig.sound());
-        lamp_is_right(&rig.s);
+        pending_is_right(&rig.s);
     }
 
     /// The maps of `cut_rig`'s chip with any of the window's blocks worn; the two
@@ -3034,7 +3034,7 @@ flash 0 0 0 300
 
     /// A marked window of which every block is worn, and the chip's others too.
     fn all_worn(version: u8) -> Rig {
-        Rig { worn: vec![1; 6], ..lamp_rig(version) }
+        Rig { worn: vec![1; 6], ..pending_rig(version) }
     }
 
     /// Blocks 1 to 4 are the window's: dirty, erased, dirty, erased.
@@ -3046,7 +3046,7 @@ flash 0 0 0 300
             (3, 18, [0, 0, 1, 2], (2, 18)),
             (4, 35, [0, 0, 0, 2], (1, 1)),
         ];
-        for (worn, actions, left, lamp) in cases {
+        for (worn, actions, left, told) in cases {
             let mut rig = cut_rig([1, 2, 1, 2]);
             let old = rig.flash.clone();
             rig.worn[worn] = 1;
@@ -3055,7 +3055,7 @@ flash 0 0 0 300
             (expected[13], expected[15]) = (3, 0x81);
             assert_eq!(rig.send(FLUSH, &[]), expected);
             assert_eq!((rig.actions, marks(&rig, 4)), (actions, left.to_vec()));
-            assert_eq!(pending(&rig.s), Some(lamp));
+            assert_eq!(pending(&rig.s), Some(told));
             assert_eq!((rig.s.kind, rig.s.first, rig.s.size), (Kind::Write, 1, 4));
             let news = [&rig.window[..BLOCK], &[0xFF; BLOCK], block(&rig.window, 2)];
             for (n, new) in (1..4).zip(news) {
@@ -3152,7 +3152,7 @@ flash 0 0 0 300
                 assert_eq!(rig.actions as usize, cost * place);
                 assert!(rig.s.marks[..place].iter().all(|&one| one == CLEAN));
                 assert!(rig.s.marks[place..].iter().all(|&one| one == mark));
-                lamp_is_right(&rig.s);
+                pending_is_right(&rig.s);
                 let (done, end) = (place * BLOCK, (1 + place) * BLOCK);
                 assert!(rig.flash[..BLOCK] == start.flash[..BLOCK]);
                 assert!(rig.flash[BLOCK..end] == start.window[..done]);
@@ -3638,7 +3638,7 @@ flash 0 0 0 300
                     _ => codes[usize::from(walk_one(&mut rig, &mut random))] += 1,
                 }
                 assert!(rig.sound());
-                lamp_is_right(&rig.s);
+                pending_is_right(&rig.s);
                 let at = random.below(rig.window.len() as u64) as usize;
                 rig.window[at] = random.below(256) as u8;
             }
@@ -3839,7 +3839,7 @@ flash 0 0 0 300
                 rig.s = start.clone();
                 let answer = rig.list(&list);
                 let listed = rig.s.clone();
-                lamp_is_right(&listed);
+                pending_is_right(&listed);
 
                 rig.s = start.clone();
                 let sequences = never_repeating(start.previous, &mut random);
@@ -3897,7 +3897,7 @@ flash 0 0 0 300
                     _ => drop(walk_one(&mut rig, &mut random)),
                 }
                 assert!(rig.sound());
-                lamp_is_right(&rig.s);
+                pending_is_right(&rig.s);
             }
         }
         assert!([1, 2, 4, 6, 7].iter().all(|&code| codes[code] > 20), "{codes:?}");
@@ -4004,7 +4004,7 @@ flash 0 0 0 300
                     }
                 }
                 assert!(rig.sound());
-                lamp_is_right(&rig.s);
+                pending_is_right(&rig.s);
                 let at = random.below(rig.window.len() as u64) as usize;
                 rig.window[at] = random.below(256) as u8;
             }
