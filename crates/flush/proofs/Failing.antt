@@ -123,10 +123,6 @@ module _ (worn : List ℕ) where
       (λ e p. absurd (true≢false (sym h ∙ e)))
 
   -- ---- marks
-  none-from : (b : ℕ) → actionsFrom b [] ≡ []
-  unfolding actionsFrom
-  none-from b = refl
-
   pub finished-few : (b : ℕ) (marks : List ℕ) → finishedFrom worn b marks ≤ length marks
   unfolding finishedFrom
   finished-few b [] = omega arith

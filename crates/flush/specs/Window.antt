@@ -1,9 +1,9 @@
 -- The flush of a session's window: document 01, "Chip actions", and 02, Ticket 8.
 use Prim.Native.Nat.{ℕ, _+_}
 use mathlib.Core.Bool.{Bool, true, false, cond, not, _&&_}
-use mathlib.Core.List.{List, _++_}
+use mathlib.Core.List.{List}
 use lib.Dec.{ltb}
-use lib.ListN.{length, take, drop, replicate}
+use lib.ListN.{length, take, drop}
 use Rattle.buffers.specs.Ranges.{range, replace}
 use Rattle.units.specs.Units.{toBytes}
 use Rattle.session.specs.declared.Session.{Session}
@@ -14,7 +14,7 @@ use Rattle.flush.specs.declared.window.Step.{Step}
 use Rattle.flush.specs.declared.window.Step.the-variants.{Unsound, Suspended, Acted, Finished, Failed}
 use Rattle.flush.specs.declared.window.Flush.{Flush}
 use Rattle.flush.specs.Actions.{Action, flushActions, performAll}
-use Rattle.flush.specs.Worn.{untilFailure, someFail, marksKept}
+use Rattle.flush.specs.Worn.{untilFailure, someFail, marksBehind, marksKept}
 
 -- the actions of the session's window; without a write window a sound session has no marks
 abbrev pub windowActions : Session → List Action
@@ -94,7 +94,7 @@ pub record Flushed : Type 0 where
 
 -- as the code has them: from how many of the 64 blocks come before the one that failed, 64 where none did, and the marks before the flush
 abbrev pub leftMarks : ℕ → List ℕ → List ℕ
-leftMarks finished marks = cond (ltb finished 64) (replicate finished 0 ++ drop finished marks) clean
+leftMarks finished marks = cond (ltb finished 64) (marksBehind finished marks) clean
 
 abbrev pub flushLeft : Session → Flush → List ℕ → Flushed
 flushLeft s f flash =

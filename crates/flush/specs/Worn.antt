@@ -35,6 +35,9 @@ finishedFrom part b (mark ∷ marks) = cond (erases mark && isWorn part b) 0 (su
 unfoldable pub finishedBlocks : List ℕ → List ℕ → ℕ
 finishedBlocks part marks = finishedFrom part 0 marks
 
--- "Finished blocks become clean; the failing one and those behind it keep their marks"
+-- "Finished blocks become clean; the failing one and those behind it keep their marks": the marks where so many blocks are finished
+abbrev pub marksBehind : ℕ → List ℕ → List ℕ
+marksBehind finished marks = replicate finished 0 ++ drop finished marks
+
 abbrev pub marksKept : List ℕ → List ℕ → List ℕ
-marksKept part marks = replicate (finishedBlocks part marks) 0 ++ drop (finishedBlocks part marks) marks
+marksKept part marks = marksBehind (finishedBlocks part marks) marks
