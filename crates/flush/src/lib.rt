@@ -8,6 +8,7 @@ mod marked;
 mod window;
 mod worn;
 
+pub use window::ALL_BLOCKS;
 pub use window::Flush;
 pub use window::Step;
 pub use window::advance;

@@ -30,8 +30,11 @@ pub enum Step {
     Failed,
 }
 
-// What a whole flush came to: the number of its actions, and how many of the 64 blocks come before the one whose erase failed,
-// 64 where none did.
+// The blocks that a flush finishes in which no erase fails.
+pub const ALL_BLOCKS: u32 = 64;
+
+// What a whole flush came to: the number of its actions, and how many blocks come before the one whose erase failed, ALL_BLOCKS
+// where none did.
 pub struct Flush {
     pub actions: u32,
     pub finished: u32,
@@ -52,7 +55,7 @@ pub fn advance(session: Session, flash: &mut [u8], worn: &[u8], memory: &[u8], d
     if step_part(session, first_marks(marks, finished), flash, memory, done) {
         return Step::Acted;
     }
-    if finished < 64 {
+    if finished < ALL_BLOCKS {
         Step::Failed
     } else {
         Step::Finished
@@ -66,7 +69,7 @@ pub fn flush_window(session: Session, flash: &mut [u8], worn: &[u8], memory: &[u
     if !is_sound(session, flash.len(), worn.len(), memory.len()) {
         return Flush {
             actions: 0,
-            finished: 64,
+            finished: ALL_BLOCKS,
         };
     }
     // two numbers instead of 64 turns, where nothing is marked: half a microsecond of a create
@@ -74,7 +77,7 @@ pub fn flush_window(session: Session, flash: &mut [u8], worn: &[u8], memory: &[u
     if none_marked(counts) {
         return Flush {
             actions: 0,
-            finished: 64,
+            finished: ALL_BLOCKS,
         };
     }
     let finished = finished_in(session, worn);

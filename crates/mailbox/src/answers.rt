@@ -13,9 +13,6 @@ ghost use Rattle.session.specs.Record.{withMarks, dropWindow};
 ghost use Rattle.flush.specs.Window.{leftMarks};
 ghost use Rattle.mailbox.specs.Commands.{answerWith, answered};
 
-// The blocks that a flush finishes in which no erase fails.
-pub(crate) const ALL_BLOCKS: u32 = 64;
-
 // WRITE_ERROR: the erase of a worn block failed.
 pub(crate) const WRITE_ERROR: u8 = 3;
 

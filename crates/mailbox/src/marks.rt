@@ -1,12 +1,12 @@
 // MARK_DIRTY, ERASE, FLUSH and ACK.
 use crate::Answer;
-use crate::answers::ALL_BLOCKS;
 use crate::answers::answer;
 use crate::answers::stopped;
 use crate::calls::Call;
 use crate::calls::refuse;
 use crate::calls::with_number;
 use buffers::fill;
+use flush::ALL_BLOCKS;
 use flush::flush_window;
 use refusals::Needs;
 use refusals::Reason;

@@ -1,6 +1,5 @@
 // RESET, CREATE_READ_WINDOW, CREATE_WRITE_WINDOW and CLOSE_WINDOW.
 use crate::Answer;
-use crate::answers::ALL_BLOCKS;
 use crate::answers::WRITE_ERROR;
 use crate::answers::answer;
 use crate::answers::dropped;
@@ -9,6 +8,7 @@ use crate::calls::Call;
 use crate::calls::refuse;
 use crate::calls::with_number;
 use buffers::copy;
+use flush::ALL_BLOCKS;
 use flush::flush_window;
 use refusals::Needs;
 use refusals::Reason;
