@@ -1,4 +1,6 @@
 // The bench program: reads an input, runs it, and prints its text.
+#![tactic(auto)]
+
 ghost use Rattle.std.specs.Prelude.{◌≡◌, length};
 
 use libc::{STDIN_FILENO, STDOUT_FILENO};

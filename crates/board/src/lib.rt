@@ -2,6 +2,8 @@
 //
 // Every record, every content of the registers and every buffer length gets an answer. References that C
 // lends must be valid and must not overlap: include/hiomap.h.
+#![tactic(auto)]
+
 mod access;
 mod convert;
 mod lists;
@@ -21,7 +23,7 @@ use session::new_session;
 
 // A session as C keeps it.
 #[repr(C)]
-#[derive(Drop)]
+#[derive(Clone, Copy)]
 pub struct Record {
     pub version: u8,
     // Whether there is a previous sequence number, 0 no and 1 yes, and that number.
@@ -42,7 +44,7 @@ pub struct Record {
 
 // The answer yes or no, and the record afterwards.
 #[repr(C)]
-#[derive(Drop)]
+#[derive(Clone, Copy)]
 pub struct Suspended {
     pub done: bool,
     pub held: Record,
@@ -50,7 +52,7 @@ pub struct Suspended {
 
 // What a step answers: its code, and whether it did an action.
 #[repr(C)]
-#[derive(Drop)]
+#[derive(Clone, Copy)]
 pub struct Stepped {
     pub code: u8,
     pub acted: bool,
@@ -58,7 +60,7 @@ pub struct Stepped {
 
 // What a list of marks answers: its code, and whether it names a pair, by its place from 0.
 #[repr(C)]
-#[derive(Drop)]
+#[derive(Clone, Copy)]
 pub struct ListReply {
     pub code: u8,
     pub named: bool,
@@ -68,7 +70,7 @@ pub struct ListReply {
 // How much is pending: whether a kept number disagrees with the marks, and else the number of marked blocks, and
 // of the chip actions that their flush takes if no block is worn.
 #[repr(C)]
-#[derive(Drop)]
+#[derive(Clone, Copy)]
 pub struct Work {
     pub unsound: bool,
     pub blocks: u32,

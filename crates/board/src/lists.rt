@@ -8,7 +8,7 @@ use marklist::{ListAnswer, mark_list};
 use session::Board;
 
 // What a list gives back.
-#[derive(Drop)]
+#[derive(Clone, Copy)]
 pub struct ServedList {
     pub held: Record,
     pub answer: ListReply,

@@ -13,7 +13,7 @@ use session::{Board, Session};
 const UNSOUND_VERSION: u8 = 255;
 
 // What a command gives back.
-#[derive(Drop)]
+#[derive(Clone, Copy)]
 pub struct Served {
     pub held: Record,
     pub registers: [u8; 16],

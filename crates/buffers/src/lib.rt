@@ -2,6 +2,8 @@
 //
 // Each function is one plain loop over the part that it is lent, which compiles to a call of memset
 // or memcpy, or to vector code. The definitions also say what it is to replace a range of a buffer.
+#![tactic(auto)]
+
 ghost use Rattle.std.specs.Prelude.{◌≡◌, length, replicate};
 ghost use Rattle.buffers.specs.Ranges.{and_each, copy_each};
 

@@ -2,6 +2,8 @@
 //
 // A flash here is the part of the chip that is lent for a window's blocks, so block b of it is
 // written from block b of the window. An action outside of it answers no and changes nothing.
+#![tactic(auto)]
+
 ghost use Rattle.std.specs.Prelude.{◌≡◌};
 ghost use Rattle.chip.specs.Actions.{has_block, erase_block, has_page, program_page};
 

@@ -4,6 +4,8 @@
 // neither the chip's size nor the session nor the map of worn blocks. `worn` says how far a flush comes by
 // the window's part of that map. `window` takes these parts out of the whole, where the session is sound,
 // and has the marks before the first failing erase flushed.
+#![tactic(auto)]
+
 mod marked;
 mod window;
 mod worn;

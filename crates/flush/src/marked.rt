@@ -13,7 +13,7 @@ use units::Blocks;
 const PAGES: u32 = 16;
 
 // Where an action stands: which of its block's actions it is, or past the end.
-#[derive(Drop)]
+#[derive(Clone, Copy)]
 pub enum Place {
     At { block: u32, nth: u32 },
     Past,

@@ -12,7 +12,7 @@ use soundness::is_sound;
 use units::Blocks;
 
 // What advancing a flush by one action came to.
-#[derive(Drop)]
+#[derive(Clone, Copy)]
 pub enum Step {
     // The sizes or the session are not sound.
     Unsound,
@@ -31,7 +31,7 @@ pub const ALL_BLOCKS: u32 = 64;
 
 // What a whole flush came to: the number of its actions, and how many blocks come before the one whose erase failed, ALL_BLOCKS
 // where none did.
-#[derive(Drop)]
+#[derive(Clone, Copy)]
 pub struct Flush {
     pub actions: u32,
     pub finished: u32,

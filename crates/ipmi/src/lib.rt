@@ -1,6 +1,8 @@
 // The IPMI transport: a message is checked and unpacked, the mediator is called, and its answer is packed.
 //
 // Every message, every session record and every buffer length gets an answer.
+#![tactic(auto)]
+
 ghost use Rattle.std.specs.Prelude.{◌≡◌};
 ghost use Rattle.session.specs.Machine.{set_up, lent};
 ghost use Rattle.messages.specs.Messages.{laid};
@@ -12,7 +14,7 @@ use messages::{Pair, Response, Taken, open_message, pack, refuse};
 use session::{Board, Session};
 
 // What a message gives back: the session, the response and the number of chip actions.
-#[derive(Drop)]
+#[derive(Clone, Copy)]
 pub struct Reply {
     pub session: Session,
     pub response: Response,

@@ -3,13 +3,15 @@
 // It is an archive of its own: in one with hiomap_command the mediator had two callers, and was compiled in place in neither
 // (docs/PERFORMANCE.md). Every message, every record and every buffer length gets an answer. References that C lends must be valid and must not
 // overlap: include/hiomap.h.
+#![tactic(auto)]
+
 mod message;
 
 pub use message::hiomap_message;
 
 // What a message gives back: the response's bytes, zero behind them, how many they are, and the number of chip actions.
 #[repr(C)]
-#[derive(Drop)]
+#[derive(Clone, Copy)]
 pub struct MessageReply {
     pub response: [u8; 16],
     pub length: u32,

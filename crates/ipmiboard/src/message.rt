@@ -8,7 +8,7 @@ use board::{Record, serve};
 use messages::{Pair, Response, Taken, open_message, pack, refuse};
 
 // What a message gives back.
-#[derive(Drop)]
+#[derive(Clone, Copy)]
 pub struct ServedMessage {
     pub held: Record,
     pub reply: MessageReply,

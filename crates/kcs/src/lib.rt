@@ -3,6 +3,8 @@
 //
 // The record is handed in and back by value, or lent as its bytes (`in_place`). Every record and every byte gets an answer, also
 // records that no access leaves.
+#![tactic(auto)]
+
 mod in_place;
 mod rows;
 
@@ -17,27 +19,27 @@ pub use in_place::{
 };
 
 // A port, as C keeps it: eight controls, then 64 bytes of request and 64 of response. `rows` has their places.
-#[derive(Drop)]
+#[derive(Clone, Copy)]
 pub struct Port {
     pub bytes: [u8; 136],
 }
 
 // What a read of Data_Out gives.
-#[derive(Drop)]
+#[derive(Clone, Copy)]
 pub struct DataRead {
     pub port: Port,
     pub byte: u8,
 }
 
 // What a write of Data_In gives: the length of the message that it completed, or 0.
-#[derive(Drop)]
+#[derive(Clone, Copy)]
 pub struct DataWritten {
     pub port: Port,
     pub length: u8,
 }
 
 // What an answer gives: whether it was taken.
-#[derive(Drop)]
+#[derive(Clone, Copy)]
 pub struct Answered {
     pub port: Port,
     pub taken: bool,

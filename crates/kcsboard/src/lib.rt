@@ -2,6 +2,8 @@
 //
 // An access is lent the 136 bytes of C's record, so that no buffer of it is copied. Every record, every byte and every length gets
 // an answer. References that C lends must be valid and must not overlap: include/kcs.h.
+#![tactic(auto)]
+
 mod accesses;
 
 ghost use Rattle.std.specs.Prelude.{◌≡◌};
@@ -12,7 +14,7 @@ pub use accesses::{kcs_read_data, kcs_respond, kcs_status, kcs_write_command, kc
 
 // A port as C keeps it.
 #[repr(C)]
-#[derive(Drop)]
+#[derive(Clone, Copy)]
 pub struct Record {
     // 0 idle, 1 writing, 2 ending, 3 awaiting, 4 reading, 5 aborting; any other is the error phase, which a refusal sets to 6.
     pub phase: u8,

@@ -2,12 +2,14 @@
 //
 // A row of such numbers is the bench program's input, and later the form of tables and recordings.
 // Every buffer, offset and number gets an answer, and a refused write changes nothing.
+#![tactic(auto)]
+
 ghost use Rattle.std.specs.Prelude.{◌≡◌, ◌≤◌, ◌<◌, length, get_or};
 ghost use Rattle.leb128.specs.Groups.{read_at, written_at, bytes_after};
 ghost use Rattle.leb128.specs.Run.{Run};
 
 // What reading a number at an offset finds.
-#[derive(Drop)]
+#[derive(Clone, Copy)]
 pub enum Read {
     // The number, and the offset past its last byte.
     Number { value: u32, next: usize },
@@ -18,7 +20,7 @@ pub enum Read {
 }
 
 // What writing a number at an offset did.
-#[derive(Drop)]
+#[derive(Clone, Copy)]
 pub enum Written {
     // All of its bytes are there, and this is the offset past them.
     Next(usize),

@@ -1,6 +1,8 @@
 // The lent session: "The board's loop owns one session record and lends it for each command".
 //
 // The entry takes the record apart, calls the proved function over values and stores the session back.
+#![tactic(auto)]
+
 ghost use Rattle.std.specs.Prelude.{◌≡◌};
 ghost use Rattle.session.specs.Machine.{set_up, lent};
 ghost use Rattle.mailbox.specs.Mediator.{mediate};
@@ -9,7 +11,7 @@ use mailbox::command;
 use session::{Board, Session};
 
 // What a command gives back besides the session: the 16 registers and the number of chip actions.
-#[derive(Drop)]
+#[derive(Clone, Copy)]
 pub struct Reply {
     pub registers: [u8; 16],
     pub actions: u32,

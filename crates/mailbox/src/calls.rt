@@ -17,7 +17,7 @@ use registers::NO_ARGUMENTS;
 use session::{Board, Previous, Session, with_previous};
 
 // What a call is given beside the buffers.
-#[derive(Drop)]
+#[derive(Clone, Copy)]
 pub struct Call {
     pub session: Session,
     pub registers: [u8; 16],

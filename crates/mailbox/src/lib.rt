@@ -1,6 +1,8 @@
 // The mailbox commands of hiomap versions 1 and 2: one mediator over values, and each command under it.
 //
 // Every content of the registers, every session record and every buffer length gets an answer.
+#![tactic(auto)]
+
 mod answers;
 mod calls;
 mod info;
@@ -22,7 +24,7 @@ use soundness::is_sound_at;
 use windows::{close_window, create_read_window, create_write_window, reset};
 
 // What a command gives back: the session, the 16 registers and the number of chip actions.
-#[derive(Drop)]
+#[derive(Clone, Copy)]
 pub struct Answer {
     pub session: Session,
     pub registers: [u8; 16],

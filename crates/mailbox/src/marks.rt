@@ -175,7 +175,7 @@ fn mark_named(session: Session, registers: [u8; 16], mark: u8) -> Session
 }
 
 // Marks, and their numbers.
-#[derive(Drop)]
+#[derive(Clone, Copy)]
 pub struct Marking {
     pub marks: [u8; 64],
     pub counts: Counts,

@@ -2,6 +2,8 @@
 //
 // Every list, every session record and every length gets an answer. No byte of the flash, its map and the window
 // memory is touched, so that their lengths are enough.
+#![tactic(auto)]
+
 mod pairs;
 
 ghost use Rattle.std.specs.Prelude.{◌≡◌};
@@ -16,7 +18,7 @@ use soundness::{is_sound_at, with_marks};
 const MOST_PAIRS: usize = 64;
 
 // The first check that refuses the list, or that it is marked.
-#[derive(Drop)]
+#[derive(Clone, Copy)]
 pub enum ListAnswer {
     Marked,
     Unsound,
@@ -30,7 +32,7 @@ pub enum ListAnswer {
 }
 
 // What the call gives back.
-#[derive(Drop)]
+#[derive(Clone, Copy)]
 pub struct Listed {
     pub session: Session,
     pub answer: ListAnswer,

@@ -2,6 +2,8 @@
 //
 // The parameters of each command and version are those of one table, specs/Parameters.antt. Every message, version and content of the registers
 // gets an answer.
+#![tactic(auto)]
+
 mod lengths;
 mod packing;
 mod taking;
@@ -10,14 +12,14 @@ pub use packing::{pack, refuse};
 pub use taking::open_message;
 
 // The network function and the command that the board reserves for hiomap.
-#[derive(Drop)]
+#[derive(Clone, Copy)]
 pub struct Pair {
     pub netfn: u8,
     pub command: u8,
 }
 
 // What becomes of a message: refused as too short to be answered, as of another pair, or as of a wrong length, or taken.
-#[derive(Drop)]
+#[derive(Clone, Copy)]
 pub enum Taken {
     Short,
     Foreign,
@@ -26,14 +28,14 @@ pub enum Taken {
 }
 
 // What becomes of a message, and the registers of a command that was taken.
-#[derive(Drop)]
+#[derive(Clone, Copy)]
 pub struct Opened {
     pub taken: Taken,
     pub registers: [u8; 16],
 }
 
 // A response: its bytes, zero behind them, and how many they are.
-#[derive(Drop)]
+#[derive(Clone, Copy)]
 pub struct Response {
     pub bytes: [u8; 16],
     pub length: u32,

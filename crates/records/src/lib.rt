@@ -1,13 +1,15 @@
 // The records of the bench program's input: one read from its bytes.
 //
 // Every row of bytes and every offset in it gets an answer.
+#![tactic(auto)]
+
 ghost use Rattle.std.specs.Prelude.{◌≡◌, ◌≤◌, replicate};
 ghost use Rattle.records.specs.Records.{plain, bad, values_at, command_at, fill_at, record_at};
 
 use leb128::{Read, read_at};
 
 // What a record is.
-#[derive(Drop)]
+#[derive(Clone, Copy)]
 pub enum Kind {
     Command,
     Fill,
@@ -19,7 +21,7 @@ pub enum Kind {
 }
 
 // A record: its kind, the registers of a command, the numbers of a fill, and the offset past it.
-#[derive(Drop)]
+#[derive(Clone, Copy)]
 pub struct Item {
     pub kind: Kind,
     pub registers: [u8; 16],

@@ -3,3 +3,4 @@
 // There is no code here. specs/ has what the claim speaks of, over the definitions that the
 // contracts of the crates below cite, and in Demand.antt the claim itself; proofs/ has its proof, `demand-3`.
 // specs/Recipe.antt has the recovery as a host does it, which is a second run after every cut: `recovers`.
+#![tactic(auto)]

@@ -2,6 +2,8 @@
 //
 // No check asks which command it is: a command says what it needs. Every content of the registers and every
 // session record gets an answer.
+#![tactic(auto)]
+
 mod blocks;
 mod checks;
 mod flags;
@@ -11,7 +13,7 @@ pub use checks::{code_for, reason_for};
 pub use flags::undefined_flags;
 
 // The first check of the table that refuses a command, or that none does.
-#[derive(Drop)]
+#[derive(Clone, Copy)]
 pub enum Reason {
     Accepted,
     System,
@@ -24,7 +26,7 @@ pub enum Reason {
 
 // What a command needs, each more than the one before: nothing, a sequence number that is not the previous one,
 // access to the flash, an active write window.
-#[derive(Drop)]
+#[derive(Clone, Copy)]
 pub enum Needs {
     Nothing,
     NewNumber,
@@ -34,7 +36,7 @@ pub enum Needs {
 
 // The window's blocks that the arguments name, and whether all of them lie in it; where they do not, the blocks mean
 // nothing.
-#[derive(Drop)]
+#[derive(Clone, Copy)]
 pub struct BlockRange {
     pub inside: bool,
     pub start: u32,

@@ -1,6 +1,8 @@
 // The 16 registers of the mailbox: the numbers that a command has as arguments, and the registers of an answer.
 //
 // Every content of the registers gets an answer.
+#![tactic(auto)]
+
 mod reading;
 
 ghost use Rattle.std.specs.Prelude.{◌≡◌};

@@ -1,6 +1,8 @@
 // The records of the bench program carried out: what one does to the session, the flash and the window memory.
 //
 // Every record, every session and every buffer length gets an answer.
+#![tactic(auto)]
+
 ghost use Rattle.std.specs.Prelude.{◌≡◌, true, length};
 ghost use Rattle.session.specs.Machine.{set_up, lent};
 ghost use Rattle.refusals.specs.Refusals.{is_write};
@@ -14,7 +16,7 @@ use units::Blocks;
 
 // What a record leaves: whether it keeps the rules, the session, and the registers, which are the
 // answer where it is a command.
-#[derive(Drop)]
+#[derive(Clone, Copy)]
 pub struct Served {
     pub good: bool,
     pub session: Session,

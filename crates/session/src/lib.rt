@@ -2,6 +2,8 @@
 //
 // Every record value can be made and gets an answer, also those that no command leaves. What the board sets up
 // stands here too, since it is looked at together with the session.
+#![tactic(auto)]
+
 mod events;
 mod marks;
 mod setters;
@@ -22,7 +24,7 @@ pub use setters::{
 pub use suspension::{Suspension, resume, resume_changed, suspend};
 
 // The window: none, read or write.
-#[derive(Drop)]
+#[derive(Clone, Copy)]
 pub enum Window {
     Closed,
     Read,
@@ -30,28 +32,28 @@ pub enum Window {
 }
 
 // The previous sequence number, if any.
-#[derive(Drop)]
+#[derive(Clone, Copy)]
 pub enum Previous {
     Absent,
     Number(u8),
 }
 
 // What a board fixes: the window's first LPC block, and the suggested timeout in seconds.
-#[derive(Drop)]
+#[derive(Clone, Copy)]
 pub struct Board {
     pub lpc: u16,
     pub timeout: u16,
 }
 
 // How many blocks have each kind of mark.
-#[derive(Drop)]
+#[derive(Clone, Copy)]
 pub struct Counts {
     pub dirty: u8,
     pub erased: u8,
 }
 
 // A session.
-#[derive(Drop)]
+#[derive(Clone, Copy)]
 pub struct Session {
     pub version: u8,
     pub previous: Previous,

@@ -7,7 +7,7 @@ use crate::events::{CONTROL_LOST, WINDOW_RESET};
 use crate::setters::{with_access, without_window};
 
 // The answer yes or no, and the session afterwards.
-#[derive(Drop)]
+#[derive(Clone, Copy)]
 pub struct Suspension {
     pub done: bool,
     pub session: Session,

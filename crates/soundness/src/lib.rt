@@ -2,6 +2,8 @@
 //
 // Every length and every session record gets an answer; what is not sound is SYSTEM_ERROR to a command or a list of marks and, B
 // aside, 4 to a step.
+#![tactic(auto)]
+
 mod marks;
 mod pending_work;
 

@@ -13,7 +13,7 @@ const LAST_MARK: u8 = 2;
 pub(crate) const EVERY_BLOCK: u16 = 64;
 
 // What the look tells: whether the marks are those of a window of which so many blocks may be marked, and their numbers.
-#[derive(Drop)]
+#[derive(Clone, Copy)]
 pub struct Look {
     pub within: bool,
     pub counts: Counts,

@@ -9,7 +9,7 @@ use session::{Session, same_counts};
 const DIRTY_ACTIONS: u32 = 17;
 
 // How much is pending.
-#[derive(Drop)]
+#[derive(Clone, Copy)]
 pub enum PendingWork {
     // A kept number disagrees with the marks.
     Unsound,

@@ -1,6 +1,8 @@
 // The bench's run of a whole input: the text that it prints, byte for byte.
 //
 // Every input and every length of the text's buffer gets an answer.
+#![tactic(auto)]
+
 mod printing;
 mod text;
 

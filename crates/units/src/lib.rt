@@ -4,6 +4,8 @@
 // blocks has 32 bits and a count of bytes 64, so the bytes of every count of blocks fit. The other
 // way every 32-bit length is rounded up exactly, and a length that needs more blocks than can be
 // counted gives the largest count, which no chip has.
+#![tactic(auto)]
+
 ghost use Rattle.std.specs.Prelude.{◌≡◌};
 ghost use Rattle.units.specs.Units.{to_bytes, to_blocks};
 
@@ -11,11 +13,11 @@ ghost use Rattle.units.specs.Units.{to_bytes, to_blocks};
 pub const BLOCK: u64 = 4096;
 
 // A number of blocks, or the number of a block.
-#[derive(Drop)]
+#[derive(Clone, Copy)]
 pub struct Blocks(pub u32);
 
 // A number of bytes, or the offset of a byte.
-#[derive(Drop)]
+#[derive(Clone, Copy)]
 pub struct Bytes(pub u64);
 
 impl Blocks {

@@ -2,6 +2,8 @@
 //
 // The file stdout beside src/ has what document 01 makes of each case; it is written from the
 // document, with the reason for each line in docs/VECTORS.md.
+#![tactic(auto)]
+
 use leb128::{Read, Written};
 use libc::STDOUT_FILENO;
 use units::{Blocks, Bytes};
