@@ -1,7 +1,7 @@
 /*
- * The hiomap mediator for C: what crates/board and crates/ipmiboard export. Build the archives with `rt staticlib
- * board` and, for hiomap_message, `rt staticlib ipmiboard`, and link target/staticlib/libboard.a and libipmiboard.a
- * (x86-64 Linux).
+ * The hiomap mediator for C: what crates/board_c and crates/ipmiboard_c export of the crates board and ipmiboard. Build
+ * the archives with `bash tests/staticlib.sh board` and, for hiomap_message, `bash tests/staticlib.sh ipmiboard`, and
+ * link target/staticlib/libboard.a and libipmiboard.a (x86-64 Linux).
  *
  * Ownership. The caller owns everything: the record of the session, the registers, a message, the flash image, its map
  * of worn blocks, the window memory and a list of marks. A call borrows what it is given and keeps nothing of it when

@@ -1,7 +1,7 @@
 /*
- * The controller's side of a KCS port (IPMI, section 9) for C: what crates/kcsboard exports. Build the archive with
- * `rt staticlib kcsboard` and link target/staticlib/libkcsboard.a (x86-64 Linux). What the messages mean is the
- * caller's affair.
+ * The controller's side of a KCS port (IPMI, section 9) for C: what crates/kcsboard_c exports of the crate kcsboard.
+ * Build the archive with `bash tests/staticlib.sh kcsboard` and link target/staticlib/libkcsboard.a (x86-64 Linux).
+ * What the messages mean is the caller's affair.
  *
  * Ownership. The caller owns everything: the record of the port, and the bytes of a response. A call borrows what it is
  * given and keeps nothing of it when it returns: a response that is taken is copied into the record. There is no hidden

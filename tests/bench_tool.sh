@@ -1,22 +1,25 @@
 #!/usr/bin/env bash
 # tools/bench.sh: what it refuses before it builds anything, what it shows while it builds, and that it prints what README.md says of
-# examples/first.hex. Up to the last part it runs in a room of its own, with an rt that only writes down that it was called.
+# examples/first.hex. Up to the last part it runs in a room of its own, with an rt that only writes down that it was called, and leaves a program as
+# `rt run` does: that one writes the lines of rt on standard error, and runs the program.
 set -euo pipefail
 cd "$(dirname "$0")/.."
 room=$(mktemp -d)
 trap 'rm -rf "$room"' EXIT
-mkdir "$room/crates" "$room/path"
+mkdir -p "$room/crates/bench" "$room/path"
 cp -r tools "$room"
 touch "$room/crates.txt"
 cat > "$room/path/rt" << 'END'
 #!/bin/sh
-echo "$*" >> called
-echo "rt: units proved (1 s)"
-echo "a line for the log"
-[ ! -e fails ] || exit 1
-mkdir -p target/bin
-printf '#!/bin/sh\necho "$(wc -c) bytes"\n' > target/bin/bench
-chmod +x target/bin/bench
+echo "$(basename "$PWD") $*" >> ../../called
+echo "rt: chose --jobs 2 for units" >&2
+echo "crate units: modules loaded=0 checked=95" >&2
+echo "a line for the log" >&2
+[ ! -e ../../fails ] || exit 1
+mkdir -p out
+printf '#!/bin/sh\necho "$(wc -c) bytes"\n' > out/bench
+chmod +x out/bench
+out/bench
 END
 chmod +x "$room/path/rt"
 
@@ -45,10 +48,17 @@ wants 0 'usage: tools/bench.sh [FILE]' '' --help
 touch "$room/fails"
 wants 1 'a line for the log' '00 00'
 rm "$room/fails"
-wants 0 'rt: units proved (1 s)' '' --build
+wants 0 'crate units: modules loaded=0 checked=95' '' --build
+[ ! -s "$room/out" ] || fail "the run that builds it is printed"
 grep -q 'a line for the log' "$room/target/bench.log" || fail "the log is not whole"
+touch "$room/crates/bench/out/stdout"
 wants 0 '4 bytes' $'00 01 # 02\n0304' -
-[ "$(wc -l < "$room/called")" = 2 ] || fail "it built again where nothing had changed"
+rm "$room/target/bin/bench"
+wants 0 '4 bytes' $'00 01 # 02\n0304' -
+[ "$(cat "$room/called")" = $'bench run\nbench run' ] || fail "it built again where nothing had changed"
+touch "$room/crates/bench/source"
+wants 0 '4 bytes' $'00 01 # 02\n0304' -
+[ "$(wc -l < "$room/called")" = 3 ] || fail "it did not build again where a source had changed"
 
 bash tests/limit.sh 900 sh tools/bench.sh examples/first.hex > "$room/out" 2> "$room/err" || fail "examples/first.hex"
 sed -n 's/^    \(\([0-9A-F][0-9A-F] \)\{15\}[0-9A-F][0-9A-F]\)$/\1/p; s/^    \(flash [0-9 ]*\)$/\1/p' README.md | diff -u - "$room/out"

@@ -1,6 +1,7 @@
 #!/usr/bin/env python3
 """Each header of include/ against the crates that it is for: the same structs and functions, with fields and arguments of the same name, type and place.
-C goes by places and contracts by names, so a name that stands elsewhere in the header would mislead whoever reads it."""
+C goes by places and contracts by names, so a name that stands elsewhere in the header would mislead whoever reads it. The structs are those of a library
+that C can see, and the functions those that the static library over it, crates/NAME_c, exports."""
 import pathlib
 import re
 import sys
@@ -8,7 +9,7 @@ import sys
 ROOT = pathlib.Path(__file__).resolve().parent.parent
 # Rattle's types as every header writes them
 PLAIN = {"u8": "uint8_t", "u16": "uint16_t", "u32": "uint32_t", "u64": "uint64_t", "usize": "size_t", "bool": "bool", "": "void", "[u8; 16]": "uint8_t[16]", "[u8; 64]": "uint8_t[64]"}
-# of each header: the crates, how many structs and functions it has, its own types as the header writes them, and the start of each lent part, which is a
+# of each header: the libraries, how many structs and functions it has, its own types as the header writes them, and the start of each lent part, which is a
 # struct of the header's own
 LIBRARIES = {
     "hiomap": (["board", "ipmiboard"], 6, 9, {
@@ -31,11 +32,17 @@ def entries(text, types):
     return [(NAMES.get(name, name), types.get(kind.strip(), kind.strip())) for name, kind in found]
 
 
-def of_source(crates, types):
+def text_of(crates):
+    """The source of these crates without its comments and without the crate in a path, as in `board::Record`."""
     sources = [path for crate in crates for path in sorted(ROOT.glob(f"crates/{crate}/src/*.rt"))]
-    said = "\n".join(re.sub(r"//.*", "", path.read_text()) for path in sources)
-    structs = {types.get(name, name): entries(body, types) for name, body in re.findall(r"#\[repr\(C\)\]\s*pub struct (\w+) \{(.*?)\}", said, re.S)}
-    calls = re.findall(r'pub extern "C" fn (\w+)\((.*?)\)(?: -> (\w+))?', said, re.S)
+    return re.sub(r"\b(?:[a-z]\w*::)+", "", "\n".join(re.sub(r"//.*", "", path.read_text()) for path in sources))
+
+
+def of_source(crates, types):
+    exports = [crate + "_c" for crate in crates]
+    bodies = re.findall(r"#\[repr\(C\)\]\s*(?:#\[[^\]]*\]\s*)*pub struct (\w+) \{(.*?)\}", text_of(crates + exports), re.S)
+    structs = {types.get(name, name): entries(body, types) for name, body in bodies}
+    calls = re.findall(r'#\[unsafe\(no_mangle\)\]\s*pub extern "C" fn (\w+)\((.*?)\)(?: -> (\w+))?', text_of(exports), re.S)
     return structs, {name: (types.get(result, result), entries(arguments, types)) for name, arguments, result in calls}
 
 

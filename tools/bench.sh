@@ -3,6 +3,8 @@
 set -eu
 here=$(cd "$(dirname "$0")/.." && pwd)
 program=$here/target/bin/bench
+# where rt run and rt ci leave it
+made=$here/crates/bench/out/bench
 log=$here/target/bench.log
 
 usage() {
@@ -15,7 +17,7 @@ Hex text: two digits a byte, spaces and line breaks anywhere between bytes, and 
 examples/first.hex is an input to start from; docs/PROTOCOL.md has the records. What the program prints goes to standard
 output, everything else to standard error.
 
-The first run proves the program, 2 to 3 minutes on two cores from nothing; later ones prove only what has changed.
+The first run proves the program, some minutes from nothing, unless rt ci has just built it; later ones prove only what has changed.
 END
 }
 
@@ -24,26 +26,33 @@ refuse() {
     exit 2
 }
 
-is_built() {
-    [ -x "$program" ] && [ -z "$(find "$here/crates" "$here/crates.txt" -type f -newer "$program" | head -n 1)" ]
+# No source is newer than this program. crates/NAME/out is rt's own.
+is_current() {
+    [ -x "$1" ] && [ -z "$(find "$here/crates" "$here/crates.txt" -path "$here/crates/*/out" ! -path "$here/crates/*/*/out" -prune -o -type f -newer "$1" -print | head -n 1)" ]
 }
 
-# Proves and builds. The log has all that rt prints; its own lines, one for each crate, are shown as they come.
+# Proves and builds. The log has all that rt prints; its own lines and one for each crate are shown as they come. rt run also runs the program, on nothing.
 build() {
     command -v rt > /dev/null || refuse "rt, the Rattle toolchain, is not in PATH"
     mkdir -p "$here/target"
-    echo "bench.sh: proving and building the bench program first, 2 to 3 minutes on two cores from nothing; the log is $log" >&2
+    echo "bench.sh: proving and building the bench program first, some minutes from nothing; the log is $log" >&2
     # a pipe has the status of its last command, so rt's is kept in a file
-    { (cd "$here" && rt check bench 2>&1) && echo 0 > "$status" || echo 1 > "$status"; } | tee "$log" | while IFS= read -r line; do
+    { (cd "$here/crates/bench" && rt run < /dev/null 2>&1 > /dev/null) && echo 0 > "$status" || echo 1 > "$status"; } | tee "$log" | while IFS= read -r line; do
         case $line in
-        "rt: "*) printf '%s\n' "$line" >&2 ;;
+        "rt: "* | "crate "*) printf '%s\n' "$line" >&2 ;;
         esac
     done
     if [ "$(cat "$status")" != 0 ]; then
         tail -n 40 "$log" >&2
         exit 1
     fi
-    touch "$program"
+}
+
+# Has the program at its place.
+provide() {
+    is_current "$made" || build
+    mkdir -p "$(dirname "$program")"
+    cp "$made" "$program"
 }
 
 [ $# -le 1 ] || refuse "one FILE at most; --help says more"
@@ -67,7 +76,7 @@ if [ "${1:-}" != --build ]; then
     fi
     python3 "$here/tools/hex2bin.py" "$@" > "$bytes"
 fi
-is_built || build
+is_current "$program" || provide
 if [ "${1:-}" != --build ]; then
     "$program" < "$bytes"
 fi

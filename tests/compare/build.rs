@@ -1,4 +1,4 @@
-// Links the static libraries that `rt staticlib` wrote.
+// Links the static libraries that tests/staticlib.sh wrote.
 fn main() {
     let root = std::env::var("CARGO_MANIFEST_DIR").unwrap();
     println!("cargo:rustc-link-search=native={root}/../../target/staticlib");
