@@ -1,14 +1,22 @@
 #!/usr/bin/env python3
-"""edits.py SAID [NAME..]: why the prover refused each must-fail edit, by what rt ci (or rt must-fail) printed into SAID; of these crates alone, where any is named.
+"""Why the prover refused each must-fail edit.
 
-rt says of each edit, in one line, the first error that is not a name which the edit took away from a proof file. An edit shows something
-only where that error is about a rule: what a function promises, a loop's invariant, or a law. It shows nothing where the edited text or a
-proof file merely no longer fits, where the prover met a limit, nor where the edited code is unsafe: a sum that wraps, an index or a part
-past the end, a cast, a callee's `requires`. In a function what is asked for safety comes before what it promises, so it comes first there."""
+    edits.py SAID [NAME..]       by what rt ci (or rt must-fail) printed into SAID: the gate
+    edits.py --whole [NAME..]    by all that rt check says of each edit, tried one by one on a copy: 6 to 40 seconds each
+
+Of these crates alone, where any is named. An edit shows something only where a rule no longer holds: what a function promises, a loop's
+invariant, or a law. It shows nothing where the edited text or a proof file merely no longer fits, where the prover met a limit, nor where
+the edited code is unsafe: a sum that wraps, an index or a part past the end, a cast, a callee's `requires`. So the first error has to be
+about a rule, and none may be about safety. rt ci prints the first alone, of those that are no names which the edit took away from a proof
+file, and it prints errors in answers before goals that no answer covers: there an error about safety behind one about a rule is seen by
+--whole alone, which passes over no names."""
 import collections
 import pathlib
 import re
+import shutil
+import subprocess
 import sys
+import tempfile
 
 ROOT = pathlib.Path(__file__).resolve().parent.parent
 SAID = re.compile(r"^rt: must-fail (\S+?)\.edit: (.*)$", re.M)
@@ -17,7 +25,7 @@ REFUSED = "refused, as it must be: "
 # how many edits rt counts, once all else passed
 COUNTED = re.compile(r"^rt: ok; .*?must-fail edits: (\d+) refused(, \d+ of them only by a limit)?(, \d+ bad)?;", re.M)
 
-# a goal of a function that no answer covers; rt cuts its lines, so the goal's name can lack its end
+# a goal of a function that no answer covers; rt ci cuts its lines, so the goal's name can lack its end
 OPEN = re.compile(r"note: src/\S+\.rt:\d+:\d+: it is not proved that (.+?) ?\(`([^`]*)")
 # the words for the goals that are about a rule; every other goal of a function is about safety, or that a loop ends
 RULE = (
@@ -36,46 +44,61 @@ ENDS = re.compile(r".+-smaller(-\d+)?$")
 ERROR = re.compile(r"(?:\./)?((?:proofs|specs)/\S+\.antt):\d+:\d+: error: `([^`]+)`: (.*)")
 # two sides that differ, a goal that does not follow, a rest that is not proved, a call of other values
 FACT = ("two types", "two values", "does not hold", "does not follow", "not proved that", "`search`: no proof", "give a proof of that", "no occurrence of the path", "but this has type")
-# rt cuts what it names there: the last of these words, too, where what comes before them is long
+# rt ci cuts what it names there: the last of these words, too, where what comes before them is long
 CUT, LONG = 160, "expected type `"
 # a name or a part that is not there
-UNFIT = ("is not in scope", "that can be named from here", "has no field", "has no `", "is no name", "was not admitted")
+UNFIT = ("is not in scope", "that can be named from here", "has no field", "has no `", "is no name")
 # an answer whose goal is another one than its file has
 OTHER_GOAL = re.compile(r"expected type `(Rattle\.\w+\.proofs\.\S+\.Goals|goal)\.")
+# an error, and what follows from another one
+ERRS, FOLLOWS = re.compile(r"\S+:\d+:\d+: error|note: src/\S+\.rt:\d+:\d+: it is not proved that "), "was not admitted"
 
 # what the code cannot do without a goal of its own, which no proof file answers
 ASKS = re.compile(r"[-+*\[]|<<|>>|\bas\b|[/%](?! *[1-9])")
 
 
-def fault_of_error(file, name, error, is_cut):
-    """What is wrong with an edit whose first error is in a file of antt's, or nothing."""
-    if file.endswith("/Invariants.antt"):
-        return "an invariant or a measure no longer fits: " + error
-    if file.endswith("/Answers.antt") and UNSAFE.match(name):
-        return "the edited code is not safe: " + error
-    if file.endswith("/Answers.antt") and ENDS.match(name):
-        return "not refused for a rule: " + error
-    is_fact = any(words in error for words in FACT) or is_cut and error.startswith(LONG)
-    if any(words in error for words in UNFIT) or OTHER_GOAL.search(error) or not is_fact:
-        return "not refused for a fact: " + error
-    return ""
-
-
-def fault_of_reason(reason):
-    """What is wrong with the first error that stands by itself, or nothing."""
+def goal_of(reason):
+    """The words and the name of the function's goal that an error is about; none where it is about a law."""
     open_goal, error = OPEN.match(reason), ERROR.match(reason)
-    if error:
-        return fault_of_error(*error.groups(), len(reason) == CUT)
-    if not open_goal:
-        return "not refused for a fact: " + reason
-    words, name = open_goal.groups()
-    if not words.startswith(RULE) or UNSAFE.match(name) or ENDS.match(name):
-        return "the edited code is not safe, or does not end: " + reason
-    return ""
+    if open_goal:
+        return open_goal.groups()
+    return ("", error[2]) if error and error[1].endswith("/Answers.antt") else ("", "")
 
 
-def adds_an_operation(edit):
-    """New code has a sum, an index or a cast more than the old. A contract and its imports are no code."""
+def is_end(reason):
+    """That a loop ends is neither a rule nor a bound."""
+    words, name = goal_of(reason)
+    return words.startswith("the loop ends") or bool(ENDS.match(name))
+
+
+def is_unsafe(reason):
+    words, name = goal_of(reason)
+    return not is_end(reason) and (bool(UNSAFE.match(name)) or bool(words) and not words.startswith(RULE))
+
+
+def is_fact(reason):
+    if OPEN.match(reason):
+        return goal_of(reason)[0].startswith(RULE)
+    error = ERROR.match(reason)
+    # an invariant or a measure that errs is not one that fails: that one's goal does
+    if not error or error[1].endswith("/Invariants.antt") or any(words in error[3] for words in UNFIT) or OTHER_GOAL.search(error[3]):
+        return False
+    return any(words in error[3] for words in FACT) or len(reason) == CUT and error[3].startswith(LONG)
+
+
+def fault_of_reasons(reasons):
+    """What is wrong with the errors of an edit, or nothing. Those that a loop ends are passed over."""
+    reasons = [reason for reason in reasons if not is_end(reason)]
+    if not reasons:
+        return "no error about a rule"
+    for reason in reasons:
+        if is_unsafe(reason):
+            return "the edited code is not safe: " + reason
+    return "" if is_fact(reasons[0]) else "not refused for a fact: " + reasons[0]
+
+
+def pairs_of(edit):
+    """(file, old, new) of each change of an edit."""
     file = old = ""
     for line in edit.read_text().splitlines():
         key, _, text = line.partition(": ")
@@ -83,44 +106,90 @@ def adds_an_operation(edit):
             file = text
         elif key == "old":
             old = text
-        elif key == "new" and file.startswith("src/") and not re.search("≡|^ghost", old):
-            if len(ASKS.findall(text)) > len(ASKS.findall(old)):
-                return True
-    return False
+        elif key in ("new", "new:"):
+            yield file, old, text
 
 
-def fault_of(edit, told):
-    """What is wrong with an edit, or nothing."""
+def adds_an_operation(edit):
+    """New code has a sum, an index or a cast more than the old. A contract and its imports are no code."""
+    return any(
+        file.startswith("src/") and not re.search("≡|^ghost", old) and len(ASKS.findall(new)) > len(ASKS.findall(old))
+        for file, old, new in pairs_of(edit)
+    )
+
+
+def fault_of_line(told):
+    """What is wrong with an edit by what rt ci printed of it, or nothing."""
     if len(told) != 1:
         return f"{len(told)} lines of what rt said name it, and not one"
     if not told[0].startswith(REFUSED):
         return told[0]
-    fault = fault_of_reason(told[0].removeprefix(REFUSED))
-    if not fault and adds_an_operation(edit):
-        return "it adds an operation that no proof file shows to be safe"
-    return fault
+    return fault_of_reasons([told[0].removeprefix(REFUSED)])
+
+
+def faults_of_lines(said, edits, names):
+    told = collections.defaultdict(list)
+    for name, text in SAID.findall(said):
+        if not names or name.split("/")[0] in names:
+            told[name].append(text)
+    for edit in edits:
+        yield edit, fault_of_line(told.pop(name_of(edit), []))
+    for name in told:
+        yield None, f"{name}: there is no such edit"
+    counted = COUNTED.search(said)
+    if not names and (not counted or counted.groups() != (str(len(edits)), None, None)):
+        yield None, f"rt counts other edits than the {len(edits)} of crates/*/must-fail: {counted[0] if counted else 'it counts none'}"
+
+
+def fault_of_check(edit, room):
+    """What is wrong with an edit by all that rt check says of it, or nothing. The room is a copy of the repository."""
+    folder = room / "crates" / edit.parts[-3]
+    try:
+        for file, old, new in pairs_of(edit):
+            text = (folder / file).read_text()
+            if text.count(old) != 1:
+                return f"its text stands {text.count(old)} times in {file}"
+            (folder / file).write_text(text.replace(old, new))
+        ran = subprocess.run(["rt", "check"], cwd=folder, stdin=subprocess.DEVNULL, stdout=subprocess.PIPE, stderr=subprocess.STDOUT, text=True, errors="replace")
+    finally:
+        for file, _, _ in pairs_of(edit):
+            shutil.copyfile(edit.parents[1] / file, folder / file)
+    if ran.returncode != 1 or not re.search(r"^logic=not-proved", ran.stdout, re.M):
+        return f"rt check ends with status {ran.returncode}: {ran.stdout[-600:]}"
+    return fault_of_reasons([line for line in ran.stdout.splitlines() if ERRS.match(line) and FOLLOWS not in line])
+
+
+def faults_of_checks(edits):
+    with tempfile.TemporaryDirectory() as folder:
+        room = pathlib.Path(folder)
+        shutil.copytree(ROOT / "crates", room / "crates", ignore=lambda at, names: ["out", "must-fail"] if pathlib.Path(at).parent == ROOT / "crates" else [])
+        shutil.copyfile(ROOT / "crates.txt", room / "crates.txt")
+        # the top of a repository
+        (room / ".git").mkdir()
+        for edit in edits:
+            fault = fault_of_check(edit, room)
+            print(f"tried {name_of(edit)}", flush=True)
+            yield edit, fault
+
+
+def name_of(edit):
+    return f"{edit.parts[-3]}/{edit.stem}"
 
 
 def main():
     if len(sys.argv) < 2:
         sys.exit(__doc__)
-    said, names = pathlib.Path(sys.argv[1]).read_text(errors="replace"), sys.argv[2:]
+    source, names = sys.argv[1], sys.argv[2:]
     edits = [edit for edit in sorted(ROOT.glob("crates/*/must-fail/*.edit")) if not names or edit.parts[-3] in names]
-    told = collections.defaultdict(list)
-    for name, text in SAID.findall(said):
-        if not names or name.split("/")[0] in names:
-            told[name].append(text)
-    faults = []
-    for edit in edits:
-        name = f"{edit.parts[-3]}/{edit.stem}"
-        faults += [f"must-fail {name}: {fault}" for fault in [fault_of(edit, told.pop(name, []))] if fault]
-    faults += [f"must-fail {name}: there is no such edit" for name in told]
-    counted = COUNTED.search(said)
-    if not names and (not counted or counted.groups() != (str(len(edits)), None, None)):
-        faults.append(f"rt counts other edits than the {len(edits)} of crates/*/must-fail: {counted.group(0) if counted else 'it counts none'}")
-    for fault in faults:
-        print(fault)
-    print(f"must-fail edits: {len(edits)} read, {len(faults)} faults")
+    found = faults_of_checks(edits) if source == "--whole" else faults_of_lines(pathlib.Path(source).read_text(errors="replace"), edits, names)
+    faults = 0
+    for edit, fault in found:
+        if edit and not fault and adds_an_operation(edit):
+            fault = "it adds an operation that no proof file shows to be safe"
+        if fault:
+            print(f"must-fail {name_of(edit)}: {fault}" if edit else f"must-fail {fault}")
+            faults += 1
+    print(f"must-fail edits: {len(edits)} read, {faults} faults")
     sys.exit(1 if faults or not edits else 0)
 
 
