@@ -85,7 +85,8 @@ pub fn hiomap_command(
         ≡ commanded (board lpc timeout) held.old registers.old flash.old worn.now memory.old }
 {
     let answer = serve(*held, *registers, lpc, timeout, flash, worn, memory);
+    let replied = answer.registers;
     *held = answer.held;
-    *registers = answer.registers;
+    *registers = replied;
     answer.actions
 }
