@@ -1,12 +1,8 @@
 -- What a message leaves, by what the code was told of it.
 use mathlib.Core.Path.{◌≡◌, refl, sym, ap, ◌∙◌}
-use mathlib.Core.List.{List, [], ◌∷◌}
+use mathlib.Core.List.{List}
 use Prim.Native.Nat.{ℕ}
-use denote.Enum.Declared.{tag_of}
-use types.Run.{OneOf}
-use Rattle.units.proofs.Keys.{none_of}
 use Rattle.session.specs.Machine.{Setup, Machine}
-use Rattle.messages.specs.contracts.Taken.{the_type}
 use Rattle.messages.specs.declared.Pair.{Pair}
 use Rattle.messages.specs.declared.Opened.{Opened}
 use Rattle.messages.specs.declared.Taken.{Taken}
@@ -31,14 +27,14 @@ served_command setup pair message m o e c =
     ap (λ (r : List ℕ). mediated message (mediate setup r m)) registers ∙ served_as_lem setup pair message m Command (sym c ∙ taken)
 
 -- one that was refused
-untouched_as : (setup : Setup) (message : List ℕ) (m : Machine) (t : Taken) → OneOf (0 ∷ 1 ∷ 2 ∷ []) (tag_of the_type t)
+untouched_as : (setup : Setup) (message : List ℕ) (m : Machine) (t : Taken) → (t ≡ Command → ⊥)
     → untouched (refusal t message) m ≡ served_as t setup message m
 untouched_as setup message m Short o = refl
 untouched_as setup message m Foreign o = refl
 untouched_as setup message m Malformed o = refl
-untouched_as setup message m Command o = absurd (none_of (0 ∷ 1 ∷ 2 ∷ []) 3 refl o)
+untouched_as setup message m Command o = absurd (o refl)
 
 pub served_refused : (setup : Setup) (pair : Pair) (message : List ℕ) (m : Machine) (o : Opened) → o ≡ opened pair m.session.version message
-    → OneOf (0 ∷ 1 ∷ 2 ∷ []) (tag_of the_type o.taken) → untouched (refusal o.taken message) m ≡ served setup pair message m
+    → (o.taken ≡ Command → ⊥) → untouched (refusal o.taken message) m ≡ served setup pair message m
 served_refused setup pair message m o e k =
     untouched_as setup message m o.taken k ∙ served_as_lem setup pair message m o.taken (ap (λ (q : Opened). q.taken) e)
