@@ -47,6 +47,10 @@ module _ (f : ℕ → ℕ → ℕ) where
   each_all (suc n) (x ∷ xs) (y ∷ ys) h k =
       ap (λ (t : List ℕ). f x y ∷ t) (each_all n xs ys (le_of_suc-le-suc h) (λ p. le_of_suc-le-suc (k (suc-le-suc p))))
 
+-- each byte by the other
+abbrev pub second : ℕ → ℕ → ℕ
+second old new = new
+
 -- one as long is copied whole
 pub copy_whole : (xs ys : List ℕ) → length ys ≡ length xs → copy_each xs ys ≡ ys
 copy_whole [] [] e = refl

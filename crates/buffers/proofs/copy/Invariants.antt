@@ -1,0 +1,11 @@
+-- `buffers::copy`: after i turns the first i bytes are copied.
+use Rattle.std.proofs.Common.{◌≡◌, ◌-◌, ◌≤◌, length, min}
+use Rattle.buffers.proofs.Each.{part_way, second}
+use Rattle.buffers.proofs.copy.Given as goal
+
+abbrev pub invariant-loop-i : goal.invariant-loop-i
+invariant-loop-i l =
+    (l.i ≤ l.end) × (l.end ≡ min (length l.initial.part) (length l.other)) × (l.part ≡ part_way second l.i l.initial.part l.other)
+
+abbrev pub decreases-loop-i : goal.decreases-loop-i
+decreases-loop-i l = l.end - l.i
