@@ -9,24 +9,21 @@ use flush::{Step, advance};
 use session::{Suspension, resume, resume_changed, suspend};
 
 // Flash access is suspended.
-#[unsafe(no_mangle)]
-pub extern "C" fn hiomap_suspend(held: Record) -> Suspended
+pub fn hiomap_suspend(held: Record) -> Suspended
     ensures { result ≡ suspended_record held }
 {
     with_numbers(held, suspend(session_of(held)), held.window)
 }
 
 // Flash access is resumed, and the flash is as it was.
-#[unsafe(no_mangle)]
-pub extern "C" fn hiomap_resume(held: Record) -> Suspended
+pub fn hiomap_resume(held: Record) -> Suspended
     ensures { result ≡ resumed_record held }
 {
     with_numbers(held, resume(session_of(held)), held.window)
 }
 
 // Flash access is resumed, and the flash was changed meanwhile: the window is dropped.
-#[unsafe(no_mangle)]
-pub extern "C" fn hiomap_resume_changed(held: Record) -> Suspended
+pub fn hiomap_resume_changed(held: Record) -> Suspended
     ensures { result ≡ changed_record held }
 {
     let answer = resume_changed(session_of(held));
@@ -52,14 +49,7 @@ fn with_numbers(held: Record, answer: Suspension, window: u8) -> Suspended
 
 // Advances the flush by one action, from the number of actions already done. Only the flash changes, and from the erase
 // of a worn block on nothing.
-#[unsafe(no_mangle)]
-pub extern "C" fn hiomap_step(
-    held: Record,
-    flash: &mut [u8],
-    worn: &[u8],
-    memory: &[u8],
-    done: u64,
-) -> Stepped
+pub fn hiomap_step(held: Record, flash: &mut [u8], worn: &[u8], memory: &[u8], done: u64) -> Stepped
     ensures { stepped_by result flash.new ≡ stepped_record held worn.now memory.now done flash.old }
 {
     if !is_regular(held) {

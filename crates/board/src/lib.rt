@@ -1,4 +1,4 @@
-// The board's boundary: the record that C keeps for a session, and the functions that C links.
+// The board's boundary: the record that C keeps for a session, and the functions that C calls (crate board_c exports them).
 //
 // Every record, every content of the registers and every buffer length gets an answer. References that C
 // lends must be valid and must not overlap: include/hiomap.h.
@@ -78,8 +78,7 @@ pub struct Work {
 }
 
 // A fresh session.
-#[unsafe(no_mangle)]
-pub extern "C" fn hiomap_fresh() -> Record
+pub fn hiomap_fresh() -> Record
     ensures { result ≡ record_of 0 fresh }
 {
     record_of(new_session(), 0)

@@ -72,8 +72,7 @@ fn unnamed(code: u8) -> ListReply
 }
 
 // Marks a list of pairs in a lent record; the lengths of the flash, its map and the window memory are in bytes.
-#[unsafe(no_mangle)]
-pub extern "C" fn hiomap_mark_list(
+pub fn hiomap_mark_list(
     held: &mut Record,
     list: &[u16],
     lpc: u16,
@@ -82,8 +81,8 @@ pub extern "C" fn hiomap_mark_list(
     worn: usize,
     memory: usize,
 ) -> ListReply
-    ensures { record { held = held.exit.now; answer = result }
-        ≡ listed_record (board lpc timeout) flash worn memory list.now held.entry.now }
+    ensures { record { held = held.new; answer = result }
+        ≡ listed_record (board lpc timeout) flash worn memory list.now held.old }
 {
     let marking = mark_all(*held, list, lpc, timeout, flash, worn, memory);
     *held = marking.held;

@@ -7,8 +7,7 @@ use crate::{Record, Work};
 use soundness::{PendingWork, pending};
 
 // Answers from the kept numbers, where they agree with the marks, whatever else the record holds.
-#[unsafe(no_mangle)]
-pub extern "C" fn hiomap_pending(held: Record) -> Work
+pub fn hiomap_pending(held: Record) -> Work
     ensures { result ≡ pending_record held }
 {
     work_of(pending(session_of(held)))

@@ -72,8 +72,7 @@ fn kept_record(held: Record, regular: bool, session: Session) -> Record
 }
 
 // Serves one mailbox command over a lent record, and answers the number of chip actions.
-#[unsafe(no_mangle)]
-pub extern "C" fn hiomap_command(
+pub fn hiomap_command(
     held: &mut Record,
     registers: &mut [u8; 16],
     lpc: u16,

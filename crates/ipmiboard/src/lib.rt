@@ -1,7 +1,6 @@
-// The C boundary of messages: the function that C links, over the record that crate board has for a session.
+// Messages over the record that crate board has for a session: the function that C calls (crate ipmiboard_c exports it).
 //
-// It is an archive of its own: in one with hiomap_command the mediator had two callers, and was compiled in place in neither
-// (docs/PERFORMANCE.md). Every message, every record and every buffer length gets an answer. References that C lends must be valid and must not
+// Every message, every record and every buffer length gets an answer. References that C lends must be valid and must not
 // overlap: include/hiomap.h.
 #![tactic(auto)]
 

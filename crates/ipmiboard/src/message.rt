@@ -76,8 +76,7 @@ fn with_response(held: Record, response: Response, actions: u32) -> ServedMessag
 }
 
 // Serves one message over a lent record.
-#[unsafe(no_mangle)]
-pub extern "C" fn hiomap_message(
+pub fn hiomap_message(
     held: &mut Record,
     netfn: u8,
     command: u8,
@@ -88,8 +87,8 @@ pub extern "C" fn hiomap_message(
     worn: &[u8],
     memory: &mut [u8],
 ) -> MessageReply
-    ensures { tells_message (record { held = held.exit.now; reply = result }) flash.new memory.new
-        ≡ messaged_record (board lpc timeout) (record { netfn = netfn; command = command }) message.now held.entry.now flash.old worn.now memory.old }
+    ensures { tells_message (record { held = held.new; reply = result }) flash.new memory.new
+        ≡ messaged_record (board lpc timeout) (record { netfn = netfn; command = command }) message.now held.old flash.old worn.now memory.old }
 {
     let served = serve_message(
         *held, netfn, command, message, lpc, timeout, flash, worn, memory,

@@ -1,5 +1,5 @@
 -- What a sound size and a sound session tell.
-use mathlib.Core.Path.{◌≡◌}
+use mathlib.Core.Path.{◌≡◌, ◌∙◌}
 use mathlib.Core.Bool.{true, false, ◌&&◌}
 use mathlib.Core.Logic.{⊎_elim}
 use lib.Dec.{leb}
@@ -41,6 +41,13 @@ sizes flash worn memory s e =
     let q = both _ _ p.0 in
     let r = both _ _ q.1 in
     (q.0, r.0, p.1, eqb-true worn (round_up flash) r.1)
+
+-- what counts a buffer's blocks counts them exactly
+pub block_count : (most length n : ℕ) → n ≡ to_blocks length → size_sound most length ≡ true → most < 65536 → n ≡ round_up length
+block_count most length n e h few = e ∙ counted most length few (sized most length h)
+
+pub sound_block_count : (flash worn memory n : ℕ) (s : Session) → sound flash worn memory s ≡ true → n ≡ to_blocks memory → n ≡ round_up memory
+sound_block_count flash worn memory n s e h = block_count 64 memory n h (sizes flash worn memory s e).1 (omega arith)
 
 active_within : (first size S C : ℕ) → active_sound first size S C ≡ true → (first + size ≤ S) × (size ≤ C)
 active_within first size S C e =

@@ -25,6 +25,7 @@ const MOST_MEMORY: u32 = 64;
 const LPC_BLOCKS: u64 = 65536;
 
 // The lent sizes, in bytes, and the session are sound; the map of worn blocks has a byte for each block of the flash.
+#[tactic(auto, using(crate::proofs::Facts::block_count), unfolding(crate::specs::Soundness::sound, crate::specs::Soundness::sizes_sound))]
 pub fn is_sound(session: Session, flash: usize, worn: usize, memory: usize) -> bool
     ensures { result ≡ sound flash worn memory session }
 {
@@ -43,6 +44,7 @@ pub fn is_sound(session: Session, flash: usize, worn: usize, memory: usize) -> b
 }
 
 // The same, with B: the window memory ends within the LPC blocks.
+#[tactic(auto, using(crate::proofs::Facts::sound_block_count), unfolding(crate::specs::Soundness::sound_at))]
 pub fn is_sound_at(session: Session, board: Board, flash: usize, worn: usize, memory: usize) -> bool
     ensures { result ≡ sound_at (set_up board) flash worn memory session }
 {
@@ -54,6 +56,7 @@ pub fn is_sound_at(session: Session, board: Board, flash: usize, worn: usize, me
 }
 
 // Whole blocks, at least one and at most so many.
+#[tactic(auto, unfolding(crate::specs::Soundness::size_sound))]
 fn size_is_sound(most: u32, length: usize) -> bool
     requires { most < 65536 }
     ensures { result ≡ size_sound most length }
@@ -68,6 +71,7 @@ fn size_is_sound(most: u32, length: usize) -> bool
     blocks.bytes().0 == length as u64
 }
 
+#[tactic(auto, unfolding(crate::specs::Soundness::session_sound))]
 fn session_is_sound(session: Session, flash: u32, memory: u32) -> bool
     ensures { result ≡ session_sound flash memory session }
 {

@@ -1,0 +1,14 @@
+-- `flush::window::step_part`: the window's own part of the flash.
+use Rattle.std.proofs.Common.{take, drop, arith}
+use Rattle.flush.specs.Actions.{flush_actions}
+use Rattle.flush.proofs.InWindow.{performed}
+use Rattle.flush.proofs.window.step_part.Goals as goal
+
+pub returns : goal.returns
+returns c =
+    let a = c.args in
+    let call = c.step_marked in (
+      call.ensures.0,
+      performed a.session a.memory.now a.flash.now call.new.part c.bytes-start.result.0 c.bytes.result.0 c.bytes-start.ensures c.bytes.ensures (omega arith) call.auto.part
+          (take 1 (drop a.done (flush_actions a.marks))) call.ensures.1,
+    )
