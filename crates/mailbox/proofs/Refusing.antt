@@ -55,10 +55,10 @@ broken_as r c setup registers m e = sym (ap (λ (q : Reason). answer_to q c setu
 
 -- what a command leaves that is refused after the first check, from what the refusal promises
 pub refused_left : (c : Command) (setup : Setup) (registers : List ℕ) (s : Session) (flash worn memory : List ℕ) (r : Reason) (a : Answer)
-    → r ≡ reason_of c true registers (lent s flash worn memory) → OneOf (1 ∷ 2 ∷ 3 ∷ 4 ∷ 5 ∷ 6 ∷ []) (tag_of the_type r) → c.when_broken ≡ refused
+    → r ≡ reason_of c true registers (lent s flash worn memory) → (r ≡ Accepted → ⊥) → c.when_broken ≡ refused
     → ((d : Command) (setup : Setup) (flash worn memory : List ℕ) → (r ≡ Accepted → ⊥) → (r ≡ System → ⊥) → (r ≡ Argument → d.when_broken ≡ refused)
     → outcome a flash worn memory ≡ answer_to r d setup registers (lent s flash worn memory))
     → outcome a flash worn memory ≡ obeyed c true setup registers (lent s flash worn memory)
 refused_left c setup registers s flash worn memory r a e o b promised =
-    promised c setup flash worn memory (not_accepted r o) (not_system c registers (lent s flash worn memory) r e) (λ _. b)
+    promised c setup flash worn memory o (not_system c registers (lent s flash worn memory) r e) (λ _. b)
     ∙ refused_by c setup registers (lent s flash worn memory) r e

@@ -1,6 +1,6 @@
 -- What each command leaves, in the order of document 01, "Commands", with 02's tickets. The session of each is that of an answered command: its number is the
 -- previous one already.
-use Rattle.std.specs.Prelude.{ℕ, ◌+◌, ◌-◌, min, cond, List, [], ◌∷◌, ◌++◌, eqb, ltb, length, replicate}
+use Rattle.std.specs.Prelude.{ℕ, ◌-◌, min, cond, List, [], ◌∷◌, ◌++◌, eqb, ltb, length, replicate}
 use Rattle.units.specs.Units.{block_bytes, to_bytes, round_up}
 use Rattle.buffers.specs.Ranges.{range, replace}
 use Rattle.chip.specs.Actions.{erased}

@@ -39,6 +39,7 @@ pub struct Listed {
 }
 
 // Marks all pairs of the list dirty, or changes nothing. The previous sequence number has no part in it.
+#[tactic(auto, unfolding(crate::specs::MarkList::listed))]
 pub fn mark_list(
     session: Session,
     list: &[u16],
@@ -63,6 +64,7 @@ pub fn mark_list(
 }
 
 // The checks in their order: the pairs last, all of them before one is marked.
+#[tactic(auto, unfolding(crate::specs::MarkList::answer_for))]
 fn check(session: Session, list: &[u16], sound: bool) -> ListAnswer
     ensures { result ≡ answer_for sound list.now session }
 {

@@ -1,6 +1,6 @@
 -- The table of parameters: what holds of each of its rows holds of the row of any command and version.
 use mathlib.Core.Path.{◌≡◌, refl, sym, subst, ◌∙◌}
-use mathlib.Core.Bool.{true, false, cond, not, ◌&&◌, false≢true}
+use mathlib.Core.Bool.{false, cond, not, ◌&&◌, false≢true}
 use mathlib.Core.List.{List, [], ◌∷◌}
 use mathlib.Core.Option.{Option, none, some}
 use Prim.Native.Nat.{ℕ}

@@ -1,4 +1,6 @@
 // The numbers of bytes that the table of parameters has for each command and version.
+#![tactic(auto, unfolding(crate::specs::Parameters::row_of, crate::specs::Parameters::table))]
+
 ghost use Rattle.std.specs.Prelude.{◌≡◌};
 ghost use Rattle.messages.specs.Parameters.{row_of};
 ghost use Rattle.messages.specs.Lengths.{asked, told};
@@ -66,6 +68,7 @@ fn asked_at_2(code: u8) -> u8
 }
 
 // The bytes of a response's parameters.
+#[tactic(auto, using(crate::proofs::Rows::told_elsewhere))]
 pub(crate) fn response_bytes(code: u8, version: u8) -> u8
     ensures { result ≡ told (row_of code version) }
 {

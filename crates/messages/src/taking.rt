@@ -27,6 +27,7 @@ pub fn open_message(pair: Pair, version: u8, message: &[u8]) -> Opened
 }
 
 // The first check that refuses a message, in Ticket 6's order, or that none does.
+#[tactic(auto, unfolding(crate::specs::Messages::taken_as))]
 fn taken_as(pair: Pair, version: u8, message: &[u8]) -> Taken
     ensures { result ≡ taken_as pair version message.now }
 {

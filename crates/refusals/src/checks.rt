@@ -7,6 +7,7 @@ use session::{Previous, Session, Window};
 
 // The first check of the table that refuses a command, if any, once the sizes, B and the session are sound: from whether
 // the agreed version knows it, what it needs, and whether its argument rule is broken.
+#[tactic(auto, unfolding(crate::specs::Refusals::reason_for))]
 pub fn reason_for(
     session: Session,
     registers: [u8; 16],

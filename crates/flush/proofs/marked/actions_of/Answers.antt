@@ -16,10 +16,12 @@ returns c =
     let wanted = c.mark_programs.ensures in
     let erase : c.if-mark_erases.erase ≡ cond (erases a.mark) 1 0 =
     elim c.if-mark_erases.branch [
-      then-mark_erases w ↦ w.erase-is ∙ sym (counts 1 _ (sym asked ∙ w.if-mark_erases.true))
-      | else-mark_erases w ↦ w.erase-is ∙ sym (counts 1 _ (sym asked ∙ w.if-mark_erases.false)) ] in
+      | then-mark_erases w ↦ w.erase-is ∙ sym (counts 1 _ (sym asked ∙ w.if-mark_erases.true))
+      | else-mark_erases w ↦ w.erase-is ∙ sym (counts 1 _ (sym asked ∙ w.if-mark_erases.false))
+    ] in
     let pages : c.if-mark_programs.pages ≡ cond (programs a.mark) 16 0 =
     elim c.if-mark_programs.branch [
-      then-mark_programs w ↦ w.pages-is ∙ sym (counts 16 _ (sym wanted ∙ w.if-mark_programs.true))
-      | else-mark_programs w ↦ w.pages-is ∙ sym (counts 16 _ (sym wanted ∙ w.if-mark_programs.false)) ] in
+      | then-mark_programs w ↦ w.pages-is ∙ sym (counts 16 _ (sym wanted ∙ w.if-mark_programs.true))
+      | else-mark_programs w ↦ w.pages-is ∙ sym (counts 16 _ (sym wanted ∙ w.if-mark_programs.false))
+    ] in
     ap (λ (n : ℕ). n + c.if-mark_programs.pages) erase ∙ ap (λ (n : ℕ). cond (erases a.mark) 1 0 + n) pages ∙ block_sum 0 a.mark

@@ -1,7 +1,6 @@
 -- `flush::marked::locate`: a block that holds the action, one block more, and no block.
-use Rattle.std.proofs.Common.{◌≡◌, ◌<◌, ◌-◌, sym, ap, subst, ◌∙◌, get_or, length, arith, ℕ}
-use Rattle.flush.specs.Actions.{flush_actions}
-use Rattle.flush.proofs.Lists.{nth_of_lem, count_more, count_most, count_of, block_count, flush_none}
+use Rattle.std.proofs.Common.{◌≡◌, ◌<◌, sym, ap, subst, ◌∙◌, get_or, length, arith, ℕ}
+use Rattle.flush.proofs.Lists.{nth_of_lem, count_more, count_of, block_count, flush_none}
 use Rattle.flush.proofs.marked.locate.Goals as goal
 
 pub loop-i-init : goal.loop-i-init

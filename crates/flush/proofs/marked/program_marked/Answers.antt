@@ -1,6 +1,5 @@
 -- `flush::marked::program_marked`: no page where the mark asks for none.
 use Rattle.std.proofs.Common.{sym, ◌∙◌}
-use borrow.Author.Tests.{not-true}
 use Rattle.flush.proofs.Lists.{perform_none}
 use Rattle.flush.proofs.marked.program_marked.Goals as goal
 

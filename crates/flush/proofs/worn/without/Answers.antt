@@ -1,5 +1,5 @@
 -- `flush::worn::without`: one mark more, and all of them.
-use Rattle.std.proofs.Common.{◌≡◌, ℕ, List, ◌+◌, ◌-◌, ap, ◌∙◌, set, replicate, length, length-set, arith, rules}
+use Rattle.std.proofs.Common.{◌≡◌, ℕ, List, ◌+◌, ◌-◌, ap, ◌∙◌, set, replicate, length-set, arith, rules}
 use Rattle.buffers.specs.Ranges.{replace}
 use Rattle.buffers.proofs.Stores.{replaced_none, replaced_more}
 use Rattle.flush.proofs.worn.without.Goals as goal
