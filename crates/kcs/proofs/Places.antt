@@ -10,7 +10,7 @@ use Rattle.buffers.specs.Ranges.{range, replace}
 use Rattle.buffers.proofs.Replace.{range_length, replace_length}
 use Rattle.kcs.specs.Port.{Control, Port}
 use Rattle.kcs.specs.Effects.{with_length}
-use Rattle.kcs.specs.Accesses.{with_control}
+use Rattle.kcs.specs.Accesses.{with_control, after_read, data_read}
 use Rattle.kcs.specs.Bytes.{control_of, control_bytes, port_of, bytes_of}
 use Rattle.kcs.proofs.RoundTrip.{two_ranges, controls_first, port_back}
 
@@ -37,6 +37,10 @@ stored stores change e xs long =
     ap stores (sym first)
     ∙ e (control_of xs) (drop 8 xs)
     ∙ ap (λ (t : List ℕ). control_bytes (change (control_of xs)) ++ t) (two_ranges 8 64 64 xs long)
+
+-- a read of Data_Out
+pub read_left : (xs : List ℕ) → length xs ≡ 136 → set xs 2 0 ≡ bytes_of (data_read (port_of xs))
+read_left = stored (λ (ys : List ℕ). set ys 2 0) after_read (λ c t. refl)
 
 -- and what is made of the port then
 pub after

@@ -23,6 +23,7 @@ pub fn read_status_in_place(port: &[u8]) -> u8
 }
 
 // The host reads Data_Out, which clears OBF; where it is clear a read gives 00.
+#[tactic(auto, using(crate::proofs::Places::read_left))]
 pub fn read_data_in_place(port: &mut [u8]) -> u8
     ensures { (length port.old ≡ 136
         → (port.new ≡ bytes_of (data_read (port_of port.old))) × (result ≡ byte_read (port_of port.old)))
