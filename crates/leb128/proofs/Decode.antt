@@ -45,6 +45,7 @@ pub data Refused : Decoded → Type 0 where
   large : {value size : ℕ} → 2 ^ 32 ≤ value → Refused (found value size)
 
 refused_before : (low : ℕ) (r : Decoded) → Refused r → Refused (before low r)
+refused_before low cut_short x' = elim x' [ ]
 refused_before low not_shortest longer = longer
 refused_before low (found value size) (large h) =
     rw (ne_eqb value 0 (λ e. omega arith)) (large {value = value * 128 + low} (omega arith))

@@ -32,6 +32,7 @@ pub struct Item {
 }
 
 // The record whose first byte stands at offset at.
+#[tactic(auto, unfolding(crate::specs::Records::record_at))]
 pub fn read_record(bytes: &[u8], at: usize) -> Item
     ensures { result ≡ record_at bytes.now at }
 {
@@ -70,6 +71,7 @@ fn bad_record() -> Item
 }
 
 // The rest of a command: the count of its values, and they.
+#[tactic(auto, unfolding(crate::specs::Records::up_to))]
 fn command_at(bytes: &[u8], at: usize) -> Item
     ensures { result ≡ command_at bytes.now at }
 {
@@ -84,6 +86,7 @@ fn command_at(bytes: &[u8], at: usize) -> Item
 }
 
 // So many values, for registers 0 onward.
+#[tactic(auto, unfolding(crate::specs::Records::up_to))]
 fn values_at(bytes: &[u8], count: usize, start: usize) -> Item
     requires { count ≤ 13 }
     ensures { result ≡ values_at bytes.now count 0 (replicate 16 0) start }
@@ -114,6 +117,7 @@ fn values_at(bytes: &[u8], count: usize, start: usize) -> Item
 }
 
 // The rest of a fill: offset, count and value.
+#[tactic(auto, unfolding(crate::specs::Records::up_to))]
 fn fill_at(bytes: &[u8], at: usize) -> Item
     ensures { result ≡ fill_at bytes.now at }
 {

@@ -5,103 +5,103 @@
 #![tactic(auto)]
 
 use leb128::{Read, Written};
-use libc::STDOUT_FILENO;
+use std::io;
 use units::{Blocks, Bytes};
 
-fn main() {
-    rounded(0);
-    rounded(1);
-    rounded(4096);
-    rounded(4097);
-    rounded(8193);
-    rounded(4294967295);
-    rounded(17592186044416);
-    written(0);
-    written(127);
-    written(128);
-    written(300);
-    written(16384);
-    written(4294967295);
-    refused_write();
-    read(b"\x7f");
-    read(b"\xac\x02");
-    read(b"\xff\xff\xff\xff\x0f");
-    read(b"\xff\xff\xff\xff\x10");
-    read(b"\x80\x00");
-    read(b"\x80\x80");
-    read(b"");
-    chip_actions();
-    kcs_exchange();
+fn main(rt: HostRuntime) -> io::Result<()> {
+    rounded(&rt, 0)?;
+    rounded(&rt, 1)?;
+    rounded(&rt, 4096)?;
+    rounded(&rt, 4097)?;
+    rounded(&rt, 8193)?;
+    rounded(&rt, 4294967295)?;
+    rounded(&rt, 17592186044416)?;
+    written(&rt, 0)?;
+    written(&rt, 127)?;
+    written(&rt, 128)?;
+    written(&rt, 300)?;
+    written(&rt, 16384)?;
+    written(&rt, 4294967295)?;
+    refused_write(&rt)?;
+    read(&rt, b"\x7f")?;
+    read(&rt, b"\xac\x02")?;
+    read(&rt, b"\xff\xff\xff\xff\x0f")?;
+    read(&rt, b"\xff\xff\xff\xff\x10")?;
+    read(&rt, b"\x80\x00")?;
+    read(&rt, b"\x80\x80")?;
+    read(&rt, b"")?;
+    chip_actions(&rt)?;
+    kcs_exchange(&rt)
 }
 
 // A number and a space.
-fn number(n: u64) {
-    io::print_decimal(STDOUT_FILENO, n);
-    io::write_all(STDOUT_FILENO, b" ");
+fn number(rt: &impl Print, n: u64) -> io::Result<()> {
+    print!(rt; "{n} ")
 }
 
-fn word(text: &[u8]) {
-    io::write_all(STDOUT_FILENO, text);
+fn word(rt: &impl Print, text: &str) -> io::Result<()> {
+    print!(rt; "{text}")
 }
 
 // A length in bytes, and the blocks that hold it.
-fn rounded(length: u64) {
-    word(b"blocks ");
-    number(length);
-    number(Bytes(length).blocks().0 as u64);
-    word(b"\n");
+fn rounded(rt: &impl Print, length: u64) -> io::Result<()> {
+    word(rt, "blocks ")?;
+    number(rt, length)?;
+    number(rt, Bytes(length).blocks().0 as u64)?;
+    word(rt, "\n")
 }
 
-fn bytes(part: &[u8]) {
+fn bytes(rt: &impl Print, part: &[u8]) -> io::Result<()> {
     let mut i = 0;
     while i < part.len() {
-        number(part[i] as u64);
+        number(rt, part[i] as u64)?;
         i += 1;
     }
+    Ok(())
 }
 
-fn written_answer(answer: Written) {
+fn written_answer(rt: &impl Print, answer: Written) -> io::Result<()> {
     match answer {
-        Written::Next(next) => number(next as u64),
-        Written::NoRoom => word(b"no room "),
+        Written::Next(next) => number(rt, next as u64),
+        Written::NoRoom => word(rt, "no room "),
     }
 }
 
 // A number written at offset 1 of seven zeros: the answer, and the seven bytes.
-fn written(value: u32) {
+fn written(rt: &impl Print, value: u32) -> io::Result<()> {
     let mut buffer = [0u8; 7];
     let answer = leb128::write_at(&mut buffer, 1, value);
-    word(b"write ");
-    number(value as u64);
-    written_answer(answer);
-    bytes(&buffer);
-    word(b"\n");
+    word(rt, "write ")?;
+    number(rt, value as u64)?;
+    written_answer(rt, answer)?;
+    bytes(rt, &buffer)?;
+    word(rt, "\n")
 }
 
 // 300 takes two bytes, and one is left.
-fn refused_write() {
+fn refused_write(rt: &impl Print) -> io::Result<()> {
     let mut buffer = [0u8; 3];
     let answer = leb128::write_at(&mut buffer, 2, 300);
-    word(b"write 300 ");
-    written_answer(answer);
-    bytes(&buffer);
-    word(b"\n");
+    word(rt, "write 300 ")?;
+    written_answer(rt, answer)?;
+    bytes(rt, &buffer)?;
+    word(rt, "\n")
 }
 
 // The number at the front of some bytes, with the offset past it.
-fn read(part: &[u8]) {
-    word(b"read ");
-    bytes(part);
+fn read(rt: &impl Print, part: &[u8]) -> io::Result<()> {
+    word(rt, "read ")?;
+    bytes(rt, part)?;
     match leb128::read_at(part, 0) {
         Read::Number { value, next } => {
-            word(b"number ");
-            number(value as u64);
-            number(next as u64);
+            word(rt, "number ")?;
+            number(rt, value as u64)?;
+            number(rt, next as u64)?;
         }
-        Read::Short => word(b"short "),
-        Read::Malformed => word(b"malformed "),
+        Read::Short => word(rt, "short ")?,
+        Read::Malformed => word(rt, "malformed ")?,
     }
-    word(b"\n");
+    word(rt, "\n")
 }
 
 // How many bytes of a part hold a value.
@@ -118,61 +118,61 @@ fn count(part: &[u8], value: u8) -> u64 {
 }
 
 // Whether an action was done, and how many bytes are F0, 0F, FF and 00 after it.
-fn shown(done: bool, flash: &[u8]) {
-    word(b"chip ");
-    number(done as u64);
-    number(count(flash, 0xf0));
-    number(count(flash, 0x0f));
-    number(count(flash, 0xff));
-    number(count(flash, 0x00));
-    word(b"\n");
+fn shown(rt: &impl Print, done: bool, flash: &[u8]) -> io::Result<()> {
+    word(rt, "chip ")?;
+    number(rt, done as u64)?;
+    number(rt, count(flash, 0xf0))?;
+    number(rt, count(flash, 0x0f))?;
+    number(rt, count(flash, 0xff))?;
+    number(rt, count(flash, 0x00))?;
+    word(rt, "\n")
 }
 
 // Two blocks of F0 under a window of 0F: a page without the erase, the erase, the page again, and
 // what lies outside.
-fn chip_actions() {
+fn chip_actions(rt: &impl Print) -> io::Result<()> {
     let mut flash = [0xf0u8; 8192];
     let window = [0x0fu8; 8192];
     let plain = chip::program_page(&mut flash, &window, Blocks(1), 15);
-    shown(plain, &flash);
+    shown(rt, plain, &flash)?;
     let erase = chip::erase_block(&mut flash, Blocks(1));
-    shown(erase, &flash);
+    shown(rt, erase, &flash)?;
     let page = chip::program_page(&mut flash, &window, Blocks(1), 15);
-    shown(page, &flash);
+    shown(rt, page, &flash)?;
     let past = chip::erase_block(&mut flash, Blocks(2));
-    shown(past, &flash);
+    shown(rt, past, &flash)?;
     let seventeenth = chip::program_page(&mut flash, &window, Blocks(0), 16);
-    shown(seventeenth, &flash);
+    shown(rt, seventeenth, &flash)
 }
 
 // What an access to a KCS port gave, and the status after it.
-fn port_line(given: u8, port: kcs::Port) {
-    word(b"kcs ");
-    number(given as u64);
-    number(kcs::read_status(port) as u64);
-    word(b"\n");
+fn port_line(rt: &impl Print, given: u8, port: kcs::Port) -> io::Result<()> {
+    word(rt, "kcs ")?;
+    number(rt, given as u64)?;
+    number(rt, kcs::read_status(port) as u64)?;
+    word(rt, "\n")
 }
 
 // A message of two bytes, handed in and back by value, and its answer of two.
-fn kcs_exchange() {
+fn kcs_exchange(rt: &impl Print) -> io::Result<()> {
     let opened = kcs::write_command(kcs::new_port(), 0x61);
-    port_line(0, opened);
+    port_line(rt, 0, opened)?;
     let kept = kcs::write_data(opened, 0x18);
-    port_line(kept.length, kept.port);
+    port_line(rt, kept.length, kept.port)?;
     let closed = kcs::write_command(kept.port, 0x62);
-    port_line(0, closed);
+    port_line(rt, 0, closed)?;
     let last = kcs::write_data(closed, 0x01);
-    port_line(last.length, last.port);
+    port_line(rt, last.length, last.port)?;
     let answered = kcs::respond(last.port, b"\x1c\x01");
-    port_line(answered.taken as u8, answered.port);
+    port_line(rt, answered.taken as u8, answered.port)?;
     let first = kcs::read_data(answered.port);
-    port_line(first.byte, first.port);
+    port_line(rt, first.byte, first.port)?;
     let asked = kcs::write_data(first.port, 0x68);
-    port_line(asked.length, asked.port);
+    port_line(rt, asked.length, asked.port)?;
     let second = kcs::read_data(asked.port);
-    port_line(second.byte, second.port);
+    port_line(rt, second.byte, second.port)?;
     let finished = kcs::write_data(second.port, 0x68);
-    port_line(finished.length, finished.port);
+    port_line(rt, finished.length, finished.port)?;
     let dummy = kcs::read_data(finished.port);
-    port_line(dummy.byte, dummy.port);
+    port_line(rt, dummy.byte, dummy.port)
 }
