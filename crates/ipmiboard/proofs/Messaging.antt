@@ -1,16 +1,12 @@
 -- What a message leaves of a record, by what the code was told of it, and beside the session that the record stands for: specs/Messages.antt.
 use mathlib.Core.Path.{◌≡◌, refl, sym, ap, subst, ◌∙◌}
 use mathlib.Core.Bool.{true, false, false≢true}
-use mathlib.Core.List.{List, [], ◌∷◌}
+use mathlib.Core.List.{List, []}
 use Prim.Native.Nat.{ℕ, ◌≤◌}
 use native.Mathlib.Nat.{le_refl}
 use lib.Dec.{lit≤}
 use lib.ListN.{length}
-use denote.Enum.Declared.{tag_of}
-use types.Run.{OneOf}
-use Rattle.units.proofs.Keys.{none_of}
 use Rattle.session.specs.Machine.{Setup, lent}
-use Rattle.messages.specs.contracts.Taken.{the_type}
 use Rattle.messages.specs.declared.Pair.{Pair}
 use Rattle.messages.specs.declared.Opened.{Opened}
 use Rattle.messages.specs.declared.Taken.{Taken}
@@ -45,15 +41,15 @@ messaged_command setup pair message h flash worn memory o e c =
     ∙ messaged_as_lem setup pair message h flash worn memory Command (sym c ∙ taken)
 
 -- one that was refused
-untouched_as : (setup : Setup) (message : List ℕ) (h : Record) (flash worn memory : List ℕ) (t : Taken) → OneOf (0 ∷ 1 ∷ 2 ∷ []) (tag_of the_type t)
+untouched_as : (setup : Setup) (message : List ℕ) (h : Record) (flash worn memory : List ℕ) (t : Taken) → (t ≡ Command → ⊥)
     → untouched_record (laid (refusal t message)) h flash memory ≡ messaged_as t setup message h flash worn memory
 untouched_as setup message h flash worn memory Short o = refl
 untouched_as setup message h flash worn memory Foreign o = refl
 untouched_as setup message h flash worn memory Malformed o = refl
-untouched_as setup message h flash worn memory Command o = absurd (none_of (0 ∷ 1 ∷ 2 ∷ []) 3 refl o)
+untouched_as setup message h flash worn memory Command o = absurd (o refl)
 
 pub messaged_refused : (setup : Setup) (pair : Pair) (message : List ℕ) (h : Record) (flash worn memory : List ℕ) (o : Opened)
-    → o ≡ opened pair h.version message → OneOf (0 ∷ 1 ∷ 2 ∷ []) (tag_of the_type o.taken)
+    → o ≡ opened pair h.version message → (o.taken ≡ Command → ⊥)
     → untouched_record (laid (refusal o.taken message)) h flash memory ≡ messaged_record setup pair message h flash worn memory
 messaged_refused setup pair message h flash worn memory o e k =
     untouched_as setup message h flash worn memory o.taken k
