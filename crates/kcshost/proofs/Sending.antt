@@ -1,6 +1,6 @@
 -- The published write: the port in the write phase, byte by byte, and the message that its last access hands over.
 use mathlib.Core.Path.{◌≡◌, refl, sym, ap, subst, ◌∙◌}
-use mathlib.Core.Bool.{Bool, true, false, cond, true≢false}
+use mathlib.Core.Bool.{Bool, false, cond, true≢false}
 use mathlib.Core.List.{List, [], ◌∷◌, ◌++◌, append_assoc}
 use Prim.Native.Nat.{ℕ, ◌+◌, ◌≤◌, ◌<◌}
 use native.Mathlib.Omega.{arith}
@@ -97,11 +97,11 @@ pub snoc : (made : List Access) (first second : Access) (rest : List Access) →
 snoc made first second rest = append_assoc (made ++ (first ∷ [])) (second ∷ []) rest ∙ append_assoc made (first ∷ []) (second ∷ rest)
 
 module _ (next end : ℕ) (response : List ℕ) (got : List ℕ) where
-  pub write_bytes
+  pub write_bytes_lem
       : (byte : ℕ) (bytes : List ℕ) (command : ℕ) (sent tail : List ℕ) (made : List Access) → length sent + length (byte ∷ bytes) ≤ 64
       → write_bytes (byte ∷ bytes) (at (port 1 command 1 sent tail next end response) made got)
       ≡ after (sending (byte ∷ bytes)) (at (port 1 command 1 sent tail next end response) made got)
-  write_bytes last [] command sent tail made fits =
+  write_bytes_lem last [] command sent tail made fits =
       let t = at (port 1 command 1 sent tail next end response) made got in
       let before = at (data_read (port 1 command 1 sent tail next end response)) (made ++ (read_data ∷ [])) got in
       let tell = clear_obf (put (write_data last) (leaves ends)) in
@@ -126,7 +126,7 @@ module _ (next end : ℕ) (response : List ℕ) (got : List ℕ) where
       })
       (append_assoc ((made ++ (read_data ∷ [])) ++ (write_command 0x62 ∷ [])) (read_data ∷ []) (write_data last ∷ [])
       ∙ snoc made read_data (write_command 0x62) (read_data ∷ write_data last ∷ []))
-  write_bytes byte (more ∷ rest) command sent tail made fits =
+  write_bytes_lem byte (more ∷ rest) command sent tail made fits =
       let p = port 1 command 1 sent tail next end response in
       let q = port 1 0 1 (sent ++ (byte ∷ [])) (drop 1 tail) next end response in
       let goes_on = put (write_data byte) (λ u. write_bytes (more ∷ rest) u) in
@@ -137,7 +137,7 @@ module _ (next end : ℕ) (response : List ℕ) (got : List ℕ) where
       ∙ cleared goes_on (at p made got) refl
       ∙ no_wait (does (write_data byte) (λ u. write_bytes (more ∷ rest) u)) (at (data_read p) (made ++ (read_data ∷ [])) got)
       ∙ ap (λ (r : Port). write_bytes (more ∷ rest) (at r now got)) same
-      ∙ write_bytes more rest 0 (sent ++ (byte ∷ [])) (drop 1 tail) now (omega (arith, fits, one_more sent byte))
+      ∙ write_bytes_lem more rest 0 (sent ++ (byte ∷ [])) (drop 1 tail) now (omega (arith, fits, one_more sent byte))
       ∙ (λ i. record {
         port = accessed_all (sending (more ∷ rest)) (sym same i);
         made = snoc made read_data (write_data byte) (sending (more ∷ rest)) i;

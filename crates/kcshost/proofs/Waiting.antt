@@ -5,7 +5,6 @@ use mathlib.Core.List.{[], ◌∷◌}
 use Prim.Native.Nat.{ℕ, zero, suc, ◌/◌}
 use native.Mathlib.Omega.{arith}
 use lib.Dec.{eqb}
-use lib.ListN.{length}
 use Rattle.kcs.specs.Port.{Port, phase_of, state_bits, is_set}
 use Rattle.kcs.specs.Accesses.{data_read, answered}
 use Rattle.buffers.specs.Ranges.{replace}

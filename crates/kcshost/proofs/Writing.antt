@@ -14,7 +14,7 @@ use Rattle.kcshost.specs.Host.{Transfer, begin, clear_obf, does, put, write_byte
 use Rattle.kcshost.specs.Transfers.{Written, PublishedWrite}
 use Rattle.kcshost.proofs.Boxes.{no_wait, cleared, is_clear}
 use Rattle.kcshost.proofs.Looks.{counted_hands, counted_append, made_leaves}
-use Rattle.kcshost.proofs.Sending.{sending, after, at, port, Hands, hands_later, write_bytes, sent_all, sending_hands}
+use Rattle.kcshost.proofs.Sending.{sending, after, at, port, Hands, hands_later, write_bytes_lem, sent_all, sending_hands}
 
 module _ (byte : ℕ) (bytes : List ℕ) (p : Port) (fits : length (byte ∷ bytes) ≤ 64) where
   -- OBF is cleared first where it is set
@@ -25,13 +25,13 @@ module _ (byte : ℕ) (bytes : List ℕ) (p : Port) (fits : length (byte ∷ byt
   unfolding opening
   starts =
       no_wait (does (write_command 0x61) (write_bytes (byte ∷ bytes))) (begin p)
-      ∙ write_bytes p.control.next p.control.end p.response [] byte bytes 1 [] p.request (write_command 0x61 ∷ []) (omega (arith, fits))
+      ∙ write_bytes_lem p.control.next p.control.end p.response [] byte bytes 1 [] p.request (write_command 0x61 ∷ []) (omega (arith, fits))
 
   clears : does read_data (put (write_command 0x61) (write_bytes (byte ∷ bytes))) (begin p) ≡ after (opening true) (begin p)
   unfolding opening
   clears =
       no_wait (does (write_command 0x61) (write_bytes (byte ∷ bytes))) (at (data_read p) (read_data ∷ []) [])
-      ∙ write_bytes p.control.next p.control.end p.response [] byte bytes 1 [] p.request (read_data ∷ write_command 0x61 ∷ []) (omega (arith, fits))
+      ∙ write_bytes_lem p.control.next p.control.end p.response [] byte bytes 1 [] p.request (read_data ∷ write_command 0x61 ∷ []) (omega (arith, fits))
 
   made : write_transfer (byte ∷ bytes) (begin p) ≡ after (opening (is_set p.control.full)) (begin p)
   made =
