@@ -34,9 +34,10 @@ pub fn serve(
         ≡ mediate (set_up board) registers (lent session.old flash.old worn.now memory.old) }
 {
     let answer = command(*session, registers, board, flash, worn, memory);
+    let replied = answer.registers;
     *session = answer.session;
     Reply {
-        registers: answer.registers,
+        registers: replied,
         actions: answer.actions,
     }
 }
