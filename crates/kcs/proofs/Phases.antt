@@ -54,13 +54,13 @@ kept_data (suc (suc zero)) room more byte above below = refl
 kept_data (suc (suc (suc n))) room more byte above below = absurd (omega (arith, below))
 
 -- what 68 and 00 do keeps no byte and completes no message
-pub Reading-step
+pub reading_step
     : (asked more : Bool) (given byte : ℕ) (p : Port)
     → (with_control (left (cond asked (cond more Continues Finishes) WrongCode) given p.control) p ≡ effected (cond asked (cond more Continues Finishes) WrongCode) given byte p)
     × (0 ≡ told_length (cond asked (cond more Continues Finishes) WrongCode) p.control)
-Reading-step true true given byte p = (refl, refl)
-Reading-step true false given byte p = (refl, refl)
-Reading-step false more given byte p = (refl, refl)
+reading_step true true given byte p = (refl, refl)
+reading_step true false given byte p = (refl, refl)
+reading_step false more given byte p = (refl, refl)
 
 pub aborting_step
     : (asked : Bool) (given byte : ℕ) (p : Port)
