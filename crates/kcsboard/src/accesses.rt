@@ -9,16 +9,14 @@ use kcs::{
 };
 
 // The host reads the status register.
-#[unsafe(no_mangle)]
-pub extern "C" fn kcs_status(port: &[u8; 136]) -> u8
+pub fn kcs_status(port: &[u8; 136]) -> u8
     ensures { result ≡ status_read (port_of port.now) }
 {
     read_status_in_place(port)
 }
 
 // The host reads Data_Out.
-#[unsafe(no_mangle)]
-pub extern "C" fn kcs_read_data(port: &mut [u8; 136]) -> u8
+pub fn kcs_read_data(port: &mut [u8; 136]) -> u8
     ensures { (port.new ≡ bytes_of (data_read (port_of port.old)))
         × (result ≡ byte_read (port_of port.old)) }
 {
@@ -26,16 +24,14 @@ pub extern "C" fn kcs_read_data(port: &mut [u8; 136]) -> u8
 }
 
 // The host writes to the command register.
-#[unsafe(no_mangle)]
-pub extern "C" fn kcs_write_command(port: &mut [u8; 136], code: u8)
+pub fn kcs_write_command(port: &mut [u8; 136], code: u8)
     ensures { port.new ≡ bytes_of (command_written code (port_of port.old)) }
 {
     write_command_in_place(port, code);
 }
 
 // The host writes to Data_In; the answer is the length of the message that this completed, or 0.
-#[unsafe(no_mangle)]
-pub extern "C" fn kcs_write_data(port: &mut [u8; 136], byte: u8) -> u8
+pub fn kcs_write_data(port: &mut [u8; 136], byte: u8) -> u8
     ensures { (port.new ≡ bytes_of (data_written byte (port_of port.old)))
         × (result ≡ length_told byte (port_of port.old)) }
 {
@@ -43,8 +39,7 @@ pub extern "C" fn kcs_write_data(port: &mut [u8; 136], byte: u8) -> u8
 }
 
 // The controller answers the message that was handed over; the answer is whether it was taken.
-#[unsafe(no_mangle)]
-pub extern "C" fn kcs_respond(port: &mut [u8; 136], response: &[u8]) -> bool
+pub fn kcs_respond(port: &mut [u8; 136], response: &[u8]) -> bool
     ensures { (port.new ≡ bytes_of (answered response.now (port_of port.old)))
         × (result ≡ answers response.now (port_of port.old)) }
 {

@@ -1,4 +1,4 @@
-// The C boundary of a KCS port: C's record, and the functions that C links.
+// The C boundary of a KCS port: C's record, and the functions that C links, which the crate kcsboard_c exports.
 //
 // An access is lent the 136 bytes of C's record, so that no buffer of it is copied. Every record, every byte and every length gets
 // an answer. References that C lends must be valid and must not overlap: include/kcs.h.
@@ -35,8 +35,7 @@ pub struct Record {
 }
 
 // A fresh port.
-#[unsafe(no_mangle)]
-pub extern "C" fn kcs_fresh() -> Record
+pub fn kcs_fresh() -> Record
     ensures { result ≡ record_of fresh }
 {
     Record {
