@@ -61,11 +61,11 @@ abbrev way_as : Way → ℕ → second.Way
 way_as by_steps version = second.by_steps
 way_as (by_flush request) version = second.by_flush (registers_in request version)
 
-way_as : (setup : Setup) (way : Way) (m : Machine) → FlushSucceeds setup way m
+way_as_lem : (setup : Setup) (way : Way) (m : Machine) → FlushSucceeds setup way m
     → second.Succeeds setup (way_as way m.session.version) m
     × (flash_after setup way m ≡ second.flash_after setup (way_as way m.session.version) m)
-way_as setup by_steps m ok = (tt, refl)
-way_as setup (by_flush request) m ok =
+way_as_lem setup by_steps m ok = (tt, refl)
+way_as_lem setup (by_flush request) m ok =
     let s = succeeds_as setup request m ok.1 in
     ((code_as request m.session.version ∙ ok.0, s.1), ap (λ (k : Machine). k.flash) s.0)
 
@@ -134,7 +134,7 @@ module _ (setup : Setup) (m : Machine) (flash : List ℕ) (run : SecondRun setup
   same₃ = inputs_are_calls setup run.inputs m₂ ∙ ap (called_all setup calls) same₂
 
   flushes : second.Succeeds setup way m₃ × (flash_after setup run.way m₃ ≡ second.flash_after setup way m₃)
-  flushes = way_as setup run.way m₃ run.way_succeeds
+  flushes = way_as_lem setup run.way m₃ run.way_succeeds
 
   abbrev by_mailbox_lem : second.SecondRun setup m flash
   by_mailbox_lem =
@@ -178,7 +178,7 @@ unstopped_as setup way m ok =
     subst
     (λ (version : ℕ). second.Succeeds setup (way_as way version) (unstopped m)
     × (flash_after setup way (unstopped m) ≡ second.unstopped_flash setup (way_as way version) m))
-    (resumed_version m.session) (way_as setup way (unstopped m) ok)
+    (resumed_version m.session) (way_as_lem setup way (unstopped m) ok)
 
 pub demand_3_by_message : Demand3ByMessage
 demand_3_by_message setup m sounds w list run way ok none =
