@@ -44,14 +44,15 @@ ENDS = re.compile(r".+-smaller(-\d+)?$")
 ERROR = re.compile(r"(?:\./)?((?:proofs|specs)/\S+\.antt):\d+:\d+: error: `([^`]+)`: (.*)")
 # two sides that differ, a goal that does not follow, a rest that is not proved, a call of other values
 FACT = ("two types", "two values", "does not hold", "does not follow", "not proved that", "`search`: no proof", "give a proof of that", "no occurrence of the path", "but this has type")
-# rt ci cuts what it names there: the last of these words, too, where what comes before them is long
-CUT, LONG = 160, "expected type `"
+# the last of these where it lacks its end: that stands in a line of its own, or rt ci cut what it names there
+CUT, BEGUN = 160, re.compile(r"expected type `([^`]*`$)?")
 # a name or a part that is not there
 UNFIT = ("is not in scope", "that can be named from here", "has no field", "has no `", "is no name")
 # an answer whose goal is another one than its file has
 OTHER_GOAL = re.compile(r"expected type `(Rattle\.\w+\.proofs\.\S+\.Goals|goal)\.")
 # an error, and what follows from another one
-ERRS, FOLLOWS = re.compile(r"\S+:\d+:\d+: error|note: src/\S+\.rt:\d+:\d+: it is not proved that "), "was not admitted"
+ERRS = re.compile(r"\S+:\d+:\d+: error|note: src/\S+\.rt:\d+:\d+: it is not proved that ")
+FOLLOWS = re.compile(r"was not admitted|declarations? that depends? on `[^`]*`, which was rejected")
 
 # what the code cannot do without a goal of its own, which no proof file answers
 ASKS = re.compile(r"[-+*\[]|<<|>>|\bas\b|[/%](?! *[1-9])")
@@ -83,7 +84,8 @@ def is_fact(reason):
     # an invariant or a measure that errs is not one that fails: that one's goal does
     if not error or error[1].endswith("/Invariants.antt") or any(words in error[3] for words in UNFIT) or OTHER_GOAL.search(error[3]):
         return False
-    return any(words in error[3] for words in FACT) or len(reason) == CUT and error[3].startswith(LONG)
+    begun = BEGUN.match(error[3])
+    return any(words in error[3] for words in FACT) or bool(begun and (begun[1] or len(reason) == CUT))
 
 
 def fault_of_reasons(reasons):
@@ -156,7 +158,9 @@ def fault_of_check(edit, room):
             shutil.copyfile(edit.parents[1] / file, folder / file)
     if ran.returncode != 1 or not re.search(r"^logic=not-proved", ran.stdout, re.M):
         return f"rt check ends with status {ran.returncode}: {ran.stdout[-600:]}"
-    return fault_of_reasons([line for line in ran.stdout.splitlines() if ERRS.match(line) and FOLLOWS not in line])
+    # what an error says goes on in the indented lines below it
+    lines = re.sub(r"\n +", " ", ran.stdout).splitlines()
+    return fault_of_reasons([line for line in lines if ERRS.match(line) and not FOLLOWS.search(line)])
 
 
 def faults_of_checks(edits):
