@@ -1,22 +1,29 @@
 #!/usr/bin/env python3
 """Why the prover refused each must-fail edit.
 
-    edits.py SAID [NAME..]       by what rt ci (or rt must-fail) printed into SAID: the gate
-    edits.py --whole [NAME..]    by all that rt check says of each edit, tried one by one on a copy: 6 to 40 seconds each
+    edits.py SAID [NAME..]       by what rt ci (or rt must-fail) printed into SAID, and where that says too little by rt check: the gate
+    edits.py --whole [NAME..]    each by rt check, tried one by one on a copy: 6 to 40 seconds each
 
 Of these crates alone, where any is named. An edit shows something only where a rule no longer holds: what a function promises, a loop's
 invariant, or a law. It shows nothing where the edited text or a proof file merely no longer fits, where the prover met a limit, nor where
 the edited code is unsafe: a sum that wraps, an index or a part past the end, a cast, a callee's `requires`. So the first error has to be
-about a rule, and none may be about safety. rt ci prints the first alone, of those that are no names which the edit took away from a proof
-file, and it prints errors in answers before goals that no answer covers: there an error about safety behind one about a rule is seen by
---whole alone, which passes over no names."""
+about a rule, and none may be about safety.
+
+rt ci prints one error of an edit: the first that is not about a name which the edit took away from a proof file. That is enough where the
+function has no proof file: there no name can be taken away, and what is asked for safety comes before what is promised. Where code is
+edited and the function has one, a goal can be open only because its answer is for a goal of another name, and errors in answers come
+before open goals about safety: there rt check is asked for all errors."""
 import collections
+import concurrent.futures
+import os
 import pathlib
+import queue
 import re
 import shutil
 import subprocess
 import sys
 import tempfile
+import time
 
 ROOT = pathlib.Path(__file__).resolve().parent.parent
 SAID = re.compile(r"^rt: must-fail (\S+?)\.edit: (.*)$", re.M)
@@ -26,7 +33,7 @@ REFUSED = "refused, as it must be: "
 COUNTED = re.compile(r"^rt: ok; .*?must-fail edits: (\d+) refused(, \d+ of them only by a limit)?(, \d+ bad)?;", re.M)
 
 # a goal of a function that no answer covers; rt ci cuts its lines, so the goal's name can lack its end
-OPEN = re.compile(r"note: src/\S+\.rt:\d+:\d+: it is not proved that (.+?) ?\(`([^`]*)")
+OPEN = re.compile(r"note: (src/\S+\.rt):(\d+):\d+: it is not proved that (.+?) ?\(`([^`]*)")
 # the words for the goals that are about a rule; every other goal of a function is about safety, or that a loop ends
 RULE = (
     "what the function ensures holds when it returns",
@@ -62,7 +69,7 @@ def goal_of(reason):
     """The words and the name of the function's goal that an error is about; none where it is about a law."""
     open_goal, error = OPEN.match(reason), ERROR.match(reason)
     if open_goal:
-        return open_goal.groups()
+        return open_goal[3], open_goal[4]
     return ("", error[2]) if error and error[1].endswith("/Answers.antt") else ("", "")
 
 
@@ -120,6 +127,10 @@ def adds_an_operation(edit):
     )
 
 
+def name_of(edit):
+    return f"{edit.parts[-3]}/{edit.stem}"
+
+
 def fault_of_line(told):
     """What is wrong with an edit by what rt ci printed of it, or nothing."""
     if len(told) != 1:
@@ -129,18 +140,22 @@ def fault_of_line(told):
     return fault_of_reasons([told[0].removeprefix(REFUSED)])
 
 
-def faults_of_lines(said, edits, names):
-    told = collections.defaultdict(list)
-    for name, text in SAID.findall(said):
-        if not names or name.split("/")[0] in names:
-            told[name].append(text)
-    for edit in edits:
-        yield edit, fault_of_line(told.pop(name_of(edit), []))
-    for name in told:
-        yield None, f"{name}: there is no such edit"
-    counted = COUNTED.search(said)
-    if not names and (not counted or counted.groups() != (str(len(edits)), None, None)):
-        yield None, f"rt counts other edits than the {len(edits)} of crates/*/must-fail: {counted[0] if counted else 'it counts none'}"
+def function_at(source, line):
+    """The function that a line of a file is in."""
+    above = source.read_text().splitlines()[: int(line)]
+    return next((head[1] for head in (re.match(r"\s*(?:[\w()\"]+ )*fn (\w+)", text) for text in reversed(above)) if head), "")
+
+
+def says_too_little(edit, reason):
+    """Whether code is edited, and the function that errs has proof files: then the first error alone does not tell what the edit shows."""
+    if not any(file.startswith("src/") for file, _, _ in pairs_of(edit)):
+        return False
+    open_goal, crate = OPEN.match(reason), edit.parents[1]
+    if not open_goal:
+        return True
+    function = function_at(crate / open_goal[1], open_goal[2])
+    # the proof of functions that call one another, or of one that calls itself, goes by another name
+    return any(file.parent.name in (function, "+" + function) or "/+" in str(file) for file in crate.glob("proofs/**/*.antt") if file.name in ("Answers.antt", "Invariants.antt", "Proof.antt"))
 
 
 def fault_of_check(edit, room):
@@ -163,21 +178,53 @@ def fault_of_check(edit, room):
     return fault_of_reasons([line for line in lines if ERRS.match(line) and not FOLLOWS.search(line)])
 
 
+def copied(room):
+    """A copy of the repository in a new folder, as far as rt check reads it."""
+    crates = ROOT / "crates"
+    shutil.copytree(crates, room / "crates", ignore=lambda at, names: ["out", "must-fail"] if pathlib.Path(at).parent == crates else [])
+    shutil.copyfile(ROOT / "crates.txt", room / "crates.txt")
+    # the top of a repository
+    (room / ".git").mkdir()
+    return room
+
+
 def faults_of_checks(edits):
-    with tempfile.TemporaryDirectory() as folder:
-        room = pathlib.Path(folder)
-        shutil.copytree(ROOT / "crates", room / "crates", ignore=lambda at, names: ["out", "must-fail"] if pathlib.Path(at).parent == ROOT / "crates" else [])
-        shutil.copyfile(ROOT / "crates.txt", room / "crates.txt")
-        # the top of a repository
-        (room / ".git").mkdir()
-        for edit in edits:
-            fault = fault_of_check(edit, room)
-            print(f"tried {name_of(edit)}", flush=True)
-            yield edit, fault
+    """The fault of each edit by rt check, two processors to a copy of the repository."""
+    if not edits:
+        return []
+    at_once = min(max((os.cpu_count() or 2) // 2, 1), len(edits))
+    with tempfile.TemporaryDirectory() as folder, concurrent.futures.ThreadPoolExecutor(at_once) as pool:
+        rooms = queue.Queue()
+        for number in range(at_once):
+            rooms.put(copied(pathlib.Path(folder, str(number))))
+
+        def tried(edit):
+            room, start = rooms.get(), time.time()
+            try:
+                fault = fault_of_check(edit, room)
+            finally:
+                rooms.put(room)
+            print(f"must-fail {name_of(edit)}: tried by rt check, {time.time() - start:.0f} s", flush=True)
+            return fault
+
+        return list(zip(edits, pool.map(tried, edits)))
 
 
-def name_of(edit):
-    return f"{edit.parts[-3]}/{edit.stem}"
+def faults_of_lines(said, edits, names):
+    """The fault of each edit by what rt said, and by rt check where that says too little."""
+    told = collections.defaultdict(list)
+    for name, text in SAID.findall(said):
+        if not names or name.split("/")[0] in names:
+            told[name].append(text)
+    found = {edit: fault_of_line(told[name_of(edit)]) for edit in edits}
+    dubious = [edit for edit in edits if not found[edit] and says_too_little(edit, told[name_of(edit)][0].removeprefix(REFUSED))]
+    print(f"must-fail edits: the first error says too little of {len(dubious)}, so these are tried again")
+    yield from {**found, **dict(faults_of_checks(dubious))}.items()
+    for name in sorted(told.keys() - {name_of(edit) for edit in edits}):
+        yield None, f"{name}: there is no such edit"
+    counted = COUNTED.search(said)
+    if not names and (not counted or counted.groups() != (str(len(edits)), None, None)):
+        yield None, f"rt counts other edits than the {len(edits)} of crates/*/must-fail: {counted[0] if counted else 'it counts none'}"
 
 
 def main():
