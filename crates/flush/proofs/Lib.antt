@@ -4,3 +4,4 @@ pub mod Failing
 mod InWindow
 pub mod Lists
 pub mod Whole
+pub mod Acting

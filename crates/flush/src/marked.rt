@@ -91,6 +91,7 @@ fn program_block(part: &mut [u8], memory: &[u8], block: Blocks)
 }
 
 // One action of a block: the erase comes first, then the pages.
+#[tactic(auto, using(crate::proofs::Acting::acted_erase, crate::proofs::Acting::acted_page))]
 fn act(part: &mut [u8], memory: &[u8], block: Blocks, nth: u32)
     ensures { part.new ≡ perform_all memory.now (nth_of block.0 nth ∷ []) part.old }
 {

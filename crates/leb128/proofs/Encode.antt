@@ -72,6 +72,13 @@ module _ (s : List ℕ) (at v : ℕ) where
       let e : leb (at + 1) (length s) ≡ true = le-leb (at + 1) (length s) (omega arith) in
       (rw (encode_small v k, e), rw (encode_small v k, e) (sym (set_is_replace s at v h)))
 
+  -- its answer, and its byte
+  pub written_small : at < length s → v < 128 → written_at v at s ≡ Next (at + 1)
+  written_small h k = (write_small h k).0
+
+  pub bytes_small : at < length s → v < 128 → bytes_after v at s ≡ set s at v
+  bytes_small h k = (write_small h k).1
+
   -- a number of several groups ends where the number made of its remaining bits does
   past_large : 128 ≤ v → at + length (encode v) ≡ at + 1 + length (encode (v / 128))
   past_large h = rw (encode_large v h) (omega arith)

@@ -56,6 +56,7 @@ fn last_group(bytes: &[u8], at: usize) -> usize
 
 // The number whose groups stand from offset at to offset last. It is put together from the high
 // group down, and given up as soon as it is known to be refused.
+#[tactic(auto, using(crate::proofs::Decode::read_zero))]
 fn number(bytes: &[u8], at: usize, last: usize) -> Read
     requires last_in_bounds { last < length bytes.now }
     requires run { Run bytes.now at last }
@@ -81,6 +82,7 @@ fn number(bytes: &[u8], at: usize, last: usize) -> Read
 
 // Writes the number's bytes from offset at on. The groups behind come first, so that nothing is
 // written where they do not fit.
+#[tactic(auto, using(crate::proofs::Encode::written_small, crate::proofs::Encode::bytes_small))]
 pub fn write_at(bytes: &mut [u8], at: usize, value: u32) -> Written
     ensures { (result ≡ written_at value at bytes.old)
         × (bytes.new ≡ bytes_after value at bytes.old) }

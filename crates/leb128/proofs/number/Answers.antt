@@ -1,6 +1,6 @@
 use Rattle.std.proofs.Common.{◌≡◌, ◌∙◌, ℕ, get_or, sym, ap, arith}
 use Rattle.leb128.specs.Groups.{found}
-use Rattle.leb128.proofs.Decode.{decode_last, read_zero, read_large, read_more, read_whole}
+use Rattle.leb128.proofs.Decode.{decode_last, read_large, read_more, read_whole}
 use Rattle.leb128.proofs.number.Goals as goal
 
 pub loop-i-init : goal.loop-i-init
@@ -14,12 +14,6 @@ loop-i-init c =
       decode_last s last c.requires.last_in_bounds (run.clear c.requires.last_in_bounds)
           ∙ ap (λ (n : ℕ). found (get_or s last 0) n) (omega arith),
     )
-
-pub returns-then-value-eq0 : goal.returns-then-value-eq0
-returns-then-value-eq0 c =
-    let a = c.args in
-    let l = c.loop-i in
-    sym (read_zero a.bytes.now a.at a.last c.requires.run l.i l.value (omega arith) l.invariant.1 l.invariant.3 (omega arith))
 
 pub returns-then-value-gt33554431 : goal.returns-then-value-gt33554431
 returns-then-value-gt33554431 c =
