@@ -1,4 +1,5 @@
 mod Creating
+pub mod Arms
 pub mod Ends
 pub mod Front
 pub mod Lengths

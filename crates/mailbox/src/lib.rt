@@ -33,6 +33,7 @@ pub struct Answer {
 
 // Serves one mailbox command: SYSTEM_ERROR first, then the published table of commands in its order, each with the first
 // version that knows it. RESET, GET_INFO and ACK are unversioned; 11 and 12 are version 3's.
+#[tactic(auto, using(crate::proofs::Arms::read_row, crate::proofs::Arms::write_row, crate::proofs::Arms::erase_row, crate::proofs::Arms::past_row))]
 pub fn command(
     session: Session,
     registers: [u8; 16],

@@ -1,12 +1,11 @@
 -- `mailbox::command`: each arm is the row of the table with its code.
-use Rattle.std.proofs.Common.{◌≤◌, arith, refl, sym, ap, ◌∙◌}
+use Rattle.std.proofs.Common.{refl, sym, ap, ◌∙◌}
 use Rattle.session.specs.Machine.{set_up, lent}
-use Rattle.registers.specs.Registers.{command_of}
 use Rattle.mailbox.specs.declared.Answer.{Answer}
 use Rattle.mailbox.specs.Commands.{leaving}
-use Rattle.mailbox.specs.Table.{reset, get_info, get_flash_info, create_read_window, close_window, create_write_window, mark_dirty, flush, ack, erase}
+use Rattle.mailbox.specs.Table.{reset, get_info, get_flash_info, close_window, mark_dirty, flush, ack}
 use Rattle.mailbox.specs.Mediator.{command_at}
-use Rattle.mailbox.proofs.Mediating.{unsound_as, row_at, past_table, unknown_at, call_fits}
+use Rattle.mailbox.proofs.Mediating.{unsound_as, row_at, call_fits}
 use Rattle.mailbox.proofs.command.Goals as goal
 
 pub returns-then-not-is_sound_at : goal.returns-then-not-is_sound_at
@@ -116,15 +115,6 @@ returns-in-3 c =
     c.get_flash_info.ensures a.worn.now a.memory.now refl
     ∙ row_at get_flash_info.code (set_up a.board) a.registers m c.in-3.is sound
 
-pub returns-in-4 : goal.returns-in-4
-unfolding command_at
-returns-in-4 c =
-    let a = c.args in
-    let m = lent a.session a.flash.now a.worn.now a.memory.now in
-    let sound = sym c.is_sound_at.ensures ∙ c.if-not-is_sound_at.false in
-    c.create_read_window.ensures refl
-    ∙ row_at create_read_window.code (set_up a.board) a.registers m c.in-4.is sound
-
 pub returns-in-5 : goal.returns-in-5
 unfolding command_at
 returns-in-5 c =
@@ -133,15 +123,6 @@ returns-in-5 c =
     let sound = sym c.is_sound_at.ensures ∙ c.if-not-is_sound_at.false in
     c.close_window.ensures refl
     ∙ row_at close_window.code (set_up a.board) a.registers m c.in-5.is sound
-
-pub returns-in-6 : goal.returns-in-6
-unfolding command_at
-returns-in-6 c =
-    let a = c.args in
-    let m = lent a.session a.flash.now a.worn.now a.memory.now in
-    let sound = sym c.is_sound_at.ensures ∙ c.if-not-is_sound_at.false in
-    c.create_write_window.ensures refl
-    ∙ row_at create_write_window.code (set_up a.board) a.registers m c.in-6.is sound
 
 pub returns-in-7 : goal.returns-in-7
 unfolding command_at
@@ -169,23 +150,3 @@ returns-in-9 c =
     let sound = sym c.is_sound_at.ensures ∙ c.if-not-is_sound_at.false in
     c.acknowledge.ensures a.flash.now a.worn.now a.memory.now
     ∙ row_at ack.code (set_up a.board) a.registers m c.in-9.is sound
-
-pub returns-in-10 : goal.returns-in-10
-unfolding command_at
-returns-in-10 c =
-    let a = c.args in
-    let m = lent a.session a.flash.now a.worn.now a.memory.now in
-    let sound = sym c.is_sound_at.ensures ∙ c.if-not-is_sound_at.false in
-    c.erase.ensures a.flash.now a.worn.now refl
-    ∙ row_at erase.code (set_up a.board) a.registers m c.in-10.is sound
-
-pub returns-in-11-to-255 : goal.returns-in-11-to-255
-returns-in-11-to-255 c =
-    let a = c.args in
-    let m = lent a.session a.flash.now a.worn.now a.memory.now in
-    let sound = sym c.is_sound_at.ensures ∙ c.if-not-is_sound_at.false in
-    let past : 11 ≤ command_of a.registers = omega (arith, c.in-11-to-255) in
-    c.unknown-in-11-to-255.ensures a.flash.now a.worn.now a.memory.now
-    ∙ unknown_at (set_up a.board) a.registers m
-    (past_table (command_of a.registers) (λ e. omega arith) (λ e. omega arith) (λ e. omega arith) (λ e. omega arith) (λ e. omega arith)
-    (λ e. omega arith) (λ e. omega arith) (λ e. omega arith) (λ e. omega arith) (λ e. omega arith)) sound
