@@ -1,8 +1,7 @@
 -- Where an action stands in a flush, for the contracts of the private functions.
-use Rattle.std.specs.Prelude.{ℕ, zero, suc, ◌≤◌, ◌<◌, cond, List, [], ◌∷◌, ◌≡◌, length, take, drop}
+use Rattle.std.specs.Prelude.{ℕ, zero, suc, ◌≤◌, ◌<◌, cond, Option, None, Some, List, [], ◌∷◌, ◌≡◌, length, take, drop}
 use Rattle.session.specs.Marks.{erases}
 use Rattle.flush.specs.declared.marked.Place.{Place}
-use Rattle.flush.specs.declared.marked.Place.TheVariants.{At, Past}
 use Rattle.flush.specs.Actions.{Action, erase, program}
 
 -- which action of a block that is erased and then programmed a mark begins with, and the nth of them
@@ -14,6 +13,6 @@ nth_of b zero = erase b
 nth_of b (suc p) = program b p
 
 -- the action after the first so many of a list is the nth of block b, or there is none
-abbrev pub Located : List Action → ℕ → Place → Type 0
-Located actions done (At b nth) = (done < length actions) × (take 1 (drop done actions) ≡ nth_of b nth ∷ [])
-Located actions done Past = length actions ≤ done
+abbrev pub Located : List Action → ℕ → Option Place → Type 0
+Located actions done (Some p) = (done < length actions) × (take 1 (drop done actions) ≡ nth_of p.block p.nth ∷ [])
+Located actions done None = length actions ≤ done

@@ -1,13 +1,13 @@
 -- The flush of a session's window: document 01, "Chip actions", and 02, Ticket 8.
-use Rattle.std.specs.Prelude.{ℕ, ◌+◌, Bool, true, false, cond, not, ◌&&◌, List, ltb, length, take, drop}
+use Rattle.std.specs.Prelude.{ℕ, ◌+◌, Bool, true, false, cond, not, ◌&&◌, Option, None, Some, is_some, Result, Ok, Err, List, ltb, length, take, drop}
 use Rattle.buffers.specs.Ranges.{range, replace}
 use Rattle.units.specs.Units.{to_bytes}
 use Rattle.session.specs.declared.Session.{Session}
 use Rattle.session.specs.Machine.{Machine}
 use Rattle.session.specs.Record.{clean}
 use Rattle.soundness.specs.Soundness.{sound}
-use Rattle.flush.specs.declared.window.Step.{Step}
-use Rattle.flush.specs.declared.window.Step.TheVariants.{Unsound, Suspended, Acted, Finished, Failed}
+use Rattle.flush.specs.declared.window.StepError.{StepError}
+use Rattle.flush.specs.declared.window.StepError.TheVariants.{Unsound, Suspended, Failed}
 use Rattle.flush.specs.declared.window.Flush.{Flush}
 use Rattle.flush.specs.Actions.{Action, flush_actions, perform_all}
 use Rattle.flush.specs.Worn.{until_failure, some_fail, marks_behind, marks_kept}
@@ -46,20 +46,16 @@ abbrev pub perform_next : Machine → ℕ → List ℕ
 perform_next m done = perform_in m.session m.memory (take 1 (drop done (done_actions m))) m.flash
 
 -- "It answers 4 .., then 6 when suspended, and changes nothing; otherwise 1", and "3 from that erase on" (02, Ticket 8): the number of each answer
-abbrev pub step_code : Step → ℕ
-step_code Unsound = 4
-step_code Suspended = 6
-step_code Acted = 1
-step_code Finished = 1
-step_code Failed = 3
+abbrev pub step_code : Result Bool StepError → ℕ
+step_code (Ok acted) = 1
+step_code (Err Unsound) = 4
+step_code (Err Suspended) = 6
+step_code (Err Failed) = 3
 
 -- "with yes if it did an action and no past the end"; a step that is refused, or whose erase fails, did none
-abbrev pub step_yes : Step → Bool
-step_yes Unsound = false
-step_yes Suspended = false
-step_yes Acted = true
-step_yes Finished = false
-step_yes Failed = false
+abbrev pub step_yes : Result Bool StepError → Bool
+step_yes (Ok acted) = acted
+step_yes (Err e) = false
 
 -- the code of a step, its yes or no, and the flash after it
 pub record Advanced : Type 0 where
@@ -68,7 +64,7 @@ pub record Advanced : Type 0 where
   pub flash : List ℕ
 
 -- as the code has them
-abbrev pub stepped : Step → List ℕ → Advanced
+abbrev pub stepped : Result Bool StepError → List ℕ → Advanced
 stepped step flash = record { code = step_code step; yes = step_yes step; flash = flash }
 
 -- the flush advanced by one action, "from the session, both buffers and the number of actions already done", and the map: B is not among these, so
@@ -88,13 +84,14 @@ pub record Flushed : Type 0 where
   pub marks : List ℕ
   pub flash : List ℕ
 
--- as the code has them: from how many of the 64 blocks come before the one that failed, 64 where none did, and the marks before the flush
-abbrev pub left_marks : ℕ → List ℕ → List ℕ
-left_marks finished marks = cond (ltb finished 64) (marks_behind finished marks) clean
+-- as the code has them: from the window's block whose erase failed, if one did, and the marks before the flush. A number that no block has is none
+abbrev pub left_marks : Option ℕ → List ℕ → List ℕ
+left_marks None marks = clean
+left_marks (Some block) marks = cond (ltb block 64) (marks_behind block marks) clean
 
 abbrev pub flush_left : Session → Flush → List ℕ → Flushed
 flush_left s f flash =
-    record { actions = f.actions; failed = ltb f.finished 64; marks = left_marks f.finished s.marks; flash = flash }
+    record { actions = f.actions; failed = is_some f.failed; marks = left_marks f.failed s.marks; flash = flash }
 
 -- all actions of a sound session's window, suspended or not, up to the first that fails: "The action count leaves out the failed erase" (02, Ticket
 -- 8). Where none fails no mark is left. Of any other session nothing is done, and its marks are not told (house: a command that flushes has passed the table)

@@ -12,11 +12,11 @@ use units::Blocks;
 // The pages of a block.
 const PAGES: u32 = 16;
 
-// Where an action stands: which of its block's actions it is, or past the end.
+// Where an action stands: its block, and which of the block's actions it is.
 #[derive(Clone, Copy)]
-pub enum Place {
-    At { block: u32, nth: u32 },
-    Past,
+pub struct Place {
+    pub block: u32,
+    pub nth: u32,
 }
 
 // Does all actions, and answers their number.

@@ -1,13 +1,12 @@
 -- Hiomap commands as messages: 000 and 002, "IPMI Transport", and document 02, Ticket 6. A message is taken or refused, unpacked to the registers of a mailbox
 -- command, and answered from the registers that the mediator leaves.
-use Rattle.std.specs.Prelude.{ℕ, ◌+◌, ◌-◌, ◌*◌, ◌/◌, ◌%◌, Bool, false, cond, not, ◌&&◌, ◌||◌, List, [], ◌∷◌, ◌++◌, eqb, ltb, length, get_or, take, drop, replicate}
+use Rattle.std.specs.Prelude.{Result, Ok, Err, ℕ, ◌+◌, ◌-◌, ◌*◌, ◌/◌, ◌%◌, Bool, false, cond, not, ◌&&◌, ◌||◌, List, [], ◌∷◌, ◌++◌, eqb, ltb, length, get_or, take, drop, replicate}
 use Rattle.std.proofs.Math.Option.{Option, none, some}
 use Rattle.buffers.specs.Ranges.{range, replace}
 use Rattle.registers.specs.Registers.{command_of, sequence_of, padded}
 use Rattle.messages.specs.declared.Pair.{Pair}
-use Rattle.messages.specs.declared.Taken.{Taken}
-use Rattle.messages.specs.declared.Taken.TheVariants.{Short, Foreign, Malformed, Command}
-use Rattle.messages.specs.declared.Opened.{Opened}
+use Rattle.messages.specs.declared.Refusal.{Refusal}
+use Rattle.messages.specs.declared.Refusal.TheVariants.{Short, Foreign, Malformed}
 use Rattle.messages.specs.declared.Response.{Response}
 use Rattle.messages.specs.Parameters.{Parameter, Row, row_of, bytes_in}
 
@@ -47,11 +46,11 @@ abbrev pub malformed : ℕ → List ℕ → Bool
 malformed version message = ltb (length message) 4 || wrong_length (row_of (hiomap_command_of message) version) (length message - 4)
 
 -- "under two bytes, the empty response; foreign pair, C1 hex; under four bytes, or a wrong length .., C7 hex"; otherwise it is a command for the mediator
-unfoldable pub taken_as : Pair → ℕ → List ℕ → Taken
+unfoldable pub taken_as : Pair → ℕ → List ℕ → Result Unit Refusal
 taken_as pair version message =
-    cond (ltb (length message) 2) Short
-    (cond (not (is_own pair message)) Foreign
-    (cond (malformed version message) Malformed Command))
+    cond (ltb (length message) 2) (Err Short)
+    (cond (not (is_own pair message)) (Err Foreign)
+    (cond (malformed version message) (Err Malformed) (Ok tt)))
 
 -- ---- "unpack the hiomap command as the I columns of 000 and 002 say"
 
@@ -72,17 +71,14 @@ registers_of version message =
     ∷ number_of message
     ∷ (arguments_of (row_of (hiomap_command_of message) version) (parameters_of message) ++ (0 ∷ 0 ∷ 0 ∷ []))
 
--- a message that is refused has none: all 16 are zero (house)
-abbrev pub registers_for : Taken → ℕ → List ℕ → List ℕ
-registers_for Short version message = replicate 16 0
-registers_for Foreign version message = replicate 16 0
-registers_for Malformed version message = replicate 16 0
-registers_for Command version message = registers_of version message
+-- a message that is refused has none
+abbrev pub opened_as : Result Unit Refusal → ℕ → List ℕ → Result (List ℕ) Refusal
+opened_as (Ok taken) version message = Ok (registers_of version message)
+opened_as (Err refused) version message = Err refused
 
 -- whether a message is taken, and its registers
-abbrev pub opened : Pair → ℕ → List ℕ → Opened
-opened pair version message =
-    record { taken = taken_as pair version message; registers = registers_for (taken_as pair version message) version message }
+abbrev pub opened : Pair → ℕ → List ℕ → Result (List ℕ) Refusal
+opened pair version message = opened_as (taken_as pair version message) version message
 
 -- ---- "pack the response with the network function made odd and the request's LUN, unchecked"
 
@@ -93,12 +89,11 @@ made_odd n = n + (1 - n % 2)
 abbrev pub headed : List ℕ → ℕ → List ℕ
 headed message completion = (made_odd (network_function_of message) * 4 + lun_of message) ∷ ipmi_command_of message ∷ completion ∷ []
 
--- a refusal, by its completion code; "under two bytes, the empty response". A message that is taken has none: it is never asked for (house)
-abbrev pub refusal : Taken → List ℕ → List ℕ
+-- a refusal, by its completion code; "under two bytes, the empty response"
+abbrev pub refusal : Refusal → List ℕ → List ℕ
 refusal Short message = []
 refusal Foreign message = headed message 0xc1
 refusal Malformed message = headed message 0xc7
-refusal Command message = []
 
 -- each parameter goes from its M offset to its I offset
 abbrev pub packed : List Parameter → List ℕ → List ℕ → List ℕ

@@ -18,20 +18,12 @@ pub struct Pair {
     pub command: u8,
 }
 
-// What becomes of a message: refused as too short to be answered, as of another pair, or as of a wrong length, or taken.
-#[derive(Clone, Copy)]
-pub enum Taken {
+// Why a message is not taken: it is too short to be answered, of another pair, or of a wrong length.
+#[derive(Clone, Copy, PartialEq, Eq)]
+pub enum Refusal {
     Short,
     Foreign,
     Malformed,
-    Command,
-}
-
-// What becomes of a message, and the registers of a command that was taken.
-#[derive(Clone, Copy)]
-pub struct Opened {
-    pub taken: Taken,
-    pub registers: [u8; 16],
 }
 
 // A response: its bytes, zero behind them, and how many they are.

@@ -6,26 +6,19 @@ ghost use Rattle.messages.specs.Messages.{made_odd, headed, refusal, values_of, 
 
 use crate::lengths::response_bytes;
 use crate::taking::byte_at;
-use crate::{Response, Taken};
+use crate::{Refusal, Response};
 
-// The empty response, or three bytes with C1 or C7. A message that was taken has no refusal.
-pub fn refuse(taken: Taken, message: &[u8]) -> Response
-    ensures { result ≡ laid (refusal taken message.now) }
+// The empty response, or three bytes with C1 or C7.
+pub fn refuse(refused: Refusal, message: &[u8]) -> Response
+    ensures { result ≡ laid (refusal refused message.now) }
 {
-    match taken {
-        Taken::Short => empty(),
-        Taken::Foreign => complete(message, 0xc1),
-        Taken::Malformed => complete(message, 0xc7),
-        Taken::Command => empty(),
-    }
-}
-
-fn empty() -> Response
-    ensures { result ≡ laid [] }
-{
-    Response {
-        bytes: [0; 16],
-        length: 0,
+    match refused {
+        Refusal::Short => Response {
+            bytes: [0; 16],
+            length: 0,
+        },
+        Refusal::Foreign => complete(message, 0xc1),
+        Refusal::Malformed => complete(message, 0xc7),
     }
 }
 

@@ -4,43 +4,32 @@ ghost use Rattle.registers.specs.Registers.{padded};
 ghost use Rattle.messages.specs.Parameters.{row_of};
 ghost use Rattle.messages.specs.Messages.{hiomap_command_of, number_of, parameters_of, wrong_length, malformed, taken_as, opened};
 
-use crate::lengths::{UNKNOWN, request_bytes};
-use crate::{Opened, Pair, Taken};
-
-const NO_REGISTERS: [u8; 16] = [0; 16];
+use crate::lengths::request_bytes;
+use crate::{Pair, Refusal};
 
 // Takes a message or refuses it, by the board's pair and the agreed version, and unpacks it.
-pub fn open_message(pair: Pair, version: u8, message: &[u8]) -> Opened
+pub fn open_message(pair: Pair, version: u8, message: &[u8]) -> Result<[u8; 16], Refusal>
     ensures { result ≡ opened pair version message.now }
 {
-    let taken = taken_as(pair, version, message);
-    match taken {
-        Taken::Command => Opened {
-            taken: Taken::Command,
-            registers: unpack(message),
-        },
-        _ => Opened {
-            taken,
-            registers: NO_REGISTERS,
-        },
-    }
+    check(pair, version, message)?;
+    Ok(unpack(message))
 }
 
 // The first check that refuses a message, in Ticket 6's order, or that none does.
 #[tactic(auto, unfolding(crate::specs::Messages::taken_as))]
-fn taken_as(pair: Pair, version: u8, message: &[u8]) -> Taken
+fn check(pair: Pair, version: u8, message: &[u8]) -> Result<(), Refusal>
     ensures { result ≡ taken_as pair version message.now }
 {
     if message.len() < 2 {
-        return Taken::Short;
+        return Err(Refusal::Short);
     }
     if !is_own(pair, message[0], message[1]) {
-        return Taken::Foreign;
+        return Err(Refusal::Foreign);
     }
     if is_malformed(version, message) {
-        return Taken::Malformed;
+        return Err(Refusal::Malformed);
     }
-    Taken::Command
+    Ok(())
 }
 
 // The network function stands above the two bits of the LUN, which is not looked at.
@@ -65,11 +54,10 @@ fn is_malformed(version: u8, message: &[u8]) -> bool
 fn is_wrong_length(code: u8, version: u8, count: usize) -> bool
     ensures { result ≡ wrong_length (row_of code version) count }
 {
-    let asked = request_bytes(code, version);
-    if asked == UNKNOWN {
-        return false;
+    match request_bytes(code, version) {
+        Some(asked) => count != asked as usize,
+        None => false,
     }
-    count != asked as usize
 }
 
 // The registers of a message, byte by byte: no request has a parameter whose two offsets differ.

@@ -6,15 +6,16 @@ use mathlib.Core.Logic.{⊎_elim}
 use Prim.Native.Nat.{ℕ, ◌+◌, ◌-◌, ◌≤◌}
 use native.Mathlib.Omega.{arith}
 use lib.Dec.{leb, ltb}
+use Rattle.std.specs.Prelude.{Err}
 use borrow.Author.Tests.{leb-true, not-false}
 use Rattle.units.proofs.Cases.{decided, passed_by, both}
 use Rattle.units.specs.Units.{round_up}
 use Rattle.session.specs.declared.Session.{Session}
 use Rattle.refusals.specs.declared.Reason.{Reason}
-use Rattle.refusals.specs.declared.Reason.TheVariants.{Accepted, System, Repeated, Unknown, Suspended, Windowless, Argument}
+use Rattle.refusals.specs.declared.Reason.TheVariants.{System, Repeated, Unknown, Suspended, Windowless, Argument}
 use Rattle.refusals.specs.declared.Needs.{Needs}
 use Rattle.registers.specs.Registers.{sequence_of, number}
-use Rattle.refusals.specs.Refusals.{blocks_named, is_previous, is_write, needs_number, needs_access, needs_window, reason_for}
+use Rattle.refusals.specs.Refusals.{Checked, Accepted, blocks_named, is_previous, is_write, needs_number, needs_access, needs_window, reason_for}
 
 -- every check of the table has passed
 pub record Passed (sound : Bool) (s : Session) (registers : List ℕ) (known : Bool) (needs : Needs) (broken : Bool) : Type 0 where
@@ -26,19 +27,19 @@ pub record Passed (sound : Bool) (s : Session) (registers : List ℕ) (known : B
   pub argued : broken ≡ false
 
 -- the answer of a command that no row refuses
-abbrev Is : Reason → Type 0
+abbrev Is : Checked → Type 0
 Is r = r ≡ Accepted
 
 pub passed : (sound : Bool) (s : Session) (registers : List ℕ) (known : Bool) (needs : Needs) (broken : Bool)
     → reason_for sound s registers known needs broken ≡ Accepted → Passed sound s registers known needs broken
 unfolding reason_for
 passed sound s registers known needs broken e =
-    let a = passed_by Is (not sound) System _ (λ q. no_system q) e in
-    let b = passed_by Is (needs_number needs && is_previous s.previous (sequence_of registers)) Repeated _ (λ q. no_repeated q) a.1 in
-    let c = passed_by Is (not known) Unknown _ (λ q. no_unknown q) b.1 in
-    let d = passed_by Is (needs_access needs && s.suspended) Suspended _ (λ q. no_suspended q) c.1 in
-    let f = passed_by Is (needs_window needs && not (is_write s.window)) Windowless _ (λ q. no_windowless q) d.1 in
-    let g = passed_by Is broken Argument Accepted (λ q. no_argument q) f.1 in
+    let a = passed_by Is (not sound) (Err System) _ (λ q. no_system q) e in
+    let b = passed_by Is (needs_number needs && is_previous s.previous (sequence_of registers)) (Err Repeated) _ (λ q. no_repeated q) a.1 in
+    let c = passed_by Is (not known) (Err Unknown) _ (λ q. no_unknown q) b.1 in
+    let d = passed_by Is (needs_access needs && s.suspended) (Err Suspended) _ (λ q. no_suspended q) c.1 in
+    let f = passed_by Is (needs_window needs && not (is_write s.window)) (Err Windowless) _ (λ q. no_windowless q) d.1 in
+    let g = passed_by Is broken (Err Argument) Accepted (λ q. no_argument q) f.1 in
     record {
       sounds = not-false sound a.0;
       fresh = b.0;
@@ -48,22 +49,22 @@ passed sound s registers known needs broken e =
       argued = g.0;
     }
   where
-    no_system : System ≡ Accepted → ⊥
+    no_system : Err System ≡ Accepted → ⊥
     no_system q = let z : ◌≡◌ {A = ℕ} 0 1 = cc in omega arith
 
-    no_repeated : Repeated ≡ Accepted → ⊥
+    no_repeated : Err Repeated ≡ Accepted → ⊥
     no_repeated q = let z : ◌≡◌ {A = ℕ} 0 1 = cc in omega arith
 
-    no_unknown : Unknown ≡ Accepted → ⊥
+    no_unknown : Err Unknown ≡ Accepted → ⊥
     no_unknown q = let z : ◌≡◌ {A = ℕ} 0 1 = cc in omega arith
 
-    no_suspended : Suspended ≡ Accepted → ⊥
+    no_suspended : Err Suspended ≡ Accepted → ⊥
     no_suspended q = let z : ◌≡◌ {A = ℕ} 0 1 = cc in omega arith
 
-    no_windowless : Windowless ≡ Accepted → ⊥
+    no_windowless : Err Windowless ≡ Accepted → ⊥
     no_windowless q = let z : ◌≡◌ {A = ℕ} 0 1 = cc in omega arith
 
-    no_argument : Argument ≡ Accepted → ⊥
+    no_argument : Err Argument ≡ Accepted → ⊥
     no_argument q = let z : ◌≡◌ {A = ℕ} 0 1 = cc in omega arith
 
 -- and the other way round
@@ -73,17 +74,17 @@ unfolding reason_for
 accepts sound s registers known needs broken p = rw (p.sounds, p.fresh, p.knows, p.awake, p.windowed, p.argued)
 
 -- SYSTEM_ERROR is the first check's alone
-pub never_system : (s : Session) (registers : List ℕ) (known : Bool) (needs : Needs) (broken : Bool) → reason_for true s registers known needs broken ≡ System → ⊥
+pub never_system : (s : Session) (registers : List ℕ) (known : Bool) (needs : Needs) (broken : Bool) → reason_for true s registers known needs broken ≡ Err System → ⊥
 unfolding reason_for
 never_system s registers known needs broken e =
-    past (needs_number needs && is_previous s.previous (sequence_of registers)) Repeated _ (λ q. let z : ◌≡◌ {A = ℕ} 0 1 = cc in omega arith)
-    (past (not known) Unknown _ (λ q. let z : ◌≡◌ {A = ℕ} 0 1 = cc in omega arith)
-    (past (needs_access needs && s.suspended) Suspended _ (λ q. let z : ◌≡◌ {A = ℕ} 0 1 = cc in omega arith)
-    (past (needs_window needs && not (is_write s.window)) Windowless _ (λ q. let z : ◌≡◌ {A = ℕ} 0 1 = cc in omega arith)
-    (past broken Argument Accepted (λ q. let z : ◌≡◌ {A = ℕ} 0 1 = cc in omega arith) (λ q. let z : ◌≡◌ {A = ℕ} 0 1 = cc in omega arith)))))
+    past (needs_number needs && is_previous s.previous (sequence_of registers)) (Err Repeated) _ (λ q. let z : ◌≡◌ {A = ℕ} 0 1 = cc in omega arith)
+    (past (not known) (Err Unknown) _ (λ q. let z : ◌≡◌ {A = ℕ} 0 1 = cc in omega arith)
+    (past (needs_access needs && s.suspended) (Err Suspended) _ (λ q. let z : ◌≡◌ {A = ℕ} 0 1 = cc in omega arith)
+    (past (needs_window needs && not (is_write s.window)) (Err Windowless) _ (λ q. let z : ◌≡◌ {A = ℕ} 0 1 = cc in omega arith)
+    (past broken (Err Argument) Accepted (λ q. let z : ◌≡◌ {A = ℕ} 0 1 = cc in omega arith) (λ q. let z : ◌≡◌ {A = ℕ} 0 1 = cc in omega arith)))))
     e
   where
-    past : (t : Bool) (r rest : Reason) → (r ≡ System → ⊥) → (rest ≡ System → ⊥) → cond t r rest ≡ System → ⊥
+    past : (t : Bool) (r rest : Checked) → (r ≡ Err System → ⊥) → (rest ≡ Err System → ⊥) → cond t r rest ≡ Err System → ⊥
     past true r rest n m q = n q
     past false r rest n m q = m q
 

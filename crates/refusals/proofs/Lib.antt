@@ -1,2 +1,1 @@
 pub mod Accepting
-mod BlockRanges

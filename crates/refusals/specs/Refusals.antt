@@ -1,13 +1,11 @@
 -- When a command is refused, and with which code: document 01, the table of "Registers", and the argument rules of "Commands" and of 02, Ticket 7.
-use Rattle.std.specs.Prelude.{ℕ, ◌+◌, ◌-◌, Bool, true, false, cond, not, ◌&&◌, List, [], ◌∷◌, leb, ltb, eqb}
+use Rattle.std.specs.Prelude.{ℕ, ◌+◌, ◌-◌, Bool, true, false, cond, not, ◌&&◌, Option, None, Some, Result, Ok, Err, List, [], ◌∷◌, leb, ltb, eqb}
 use Rattle.units.specs.Units.{round_up}
 use Rattle.session.specs.declared.Session.{Session}
 use Rattle.session.specs.declared.Window.{Window}
 use Rattle.session.specs.declared.Window.TheVariants.{Closed, Read, Write}
-use Rattle.session.specs.declared.Previous.{Previous}
-use Rattle.session.specs.declared.Previous.TheVariants.{Absent, Number}
 use Rattle.refusals.specs.declared.Reason.{Reason}
-use Rattle.refusals.specs.declared.Reason.TheVariants.{Accepted, System, Repeated, Unknown, Suspended, Windowless, Argument}
+use Rattle.refusals.specs.declared.Reason.TheVariants.{System, Repeated, Unknown, Suspended, Windowless, Argument}
 use Rattle.refusals.specs.declared.Needs.{Needs}
 use Rattle.refusals.specs.declared.Needs.TheVariants.{Nothing, NewNumber, Access, WriteWindow}
 use Rattle.refusals.specs.declared.BlockRange.{BlockRange}
@@ -15,10 +13,20 @@ use Rattle.registers.specs.Registers.{sequence_of, argument, number}
 
 -- ---- the argument rules
 
+-- the blocks of the window that a command names, and whether all of them lie in it
+pub record NamedBlocks : Type 0 where
+  pub inside : Bool
+  pub start : ℕ
+  pub count : ℕ
+
+-- as the code has them: none where they do not
+abbrev pub range_of : NamedBlocks → Option BlockRange
+range_of named = cond named.inside (Some (record { start = named.start; count = named.count })) None
+
 -- "version 1: flash block a (0-1) and L bytes (2-5); L is rounded up to k blocks, and blocks a to a + k must lie between the window's first
 -- block and its end. Version 2: window block w (0-1) and k blocks (2-3), with w + k <= size. Sums are whole-number sums": whether the blocks
 -- lie in the window, and which of its blocks they are, if they do; whether there is a window is another check
-abbrev pub blocks_named : Session → List ℕ → BlockRange
+abbrev pub blocks_named : Session → List ℕ → NamedBlocks
 blocks_named s registers =
     cond (ltb s.version 2)
     (record {
@@ -64,9 +72,9 @@ flush_outside s registers S = flush_marks s registers && outside_window s regist
 -- ---- what the checks look at
 
 -- "the sequence equals the previous one"
-abbrev pub is_previous : Previous → ℕ → Bool
-is_previous Absent n = false
-is_previous (Number previous) n = eqb n previous
+abbrev pub is_previous : Option ℕ → ℕ → Bool
+is_previous None n = false
+is_previous (Some previous) n = eqb n previous
 
 -- "an active write window"
 abbrev pub is_write : Window → Bool
@@ -116,22 +124,29 @@ table sound s registers known needs broken =
     ∷ record { test = broken; reason = Argument }
     ∷ []
 
--- the first row that holds
-abbrev pub first_of : List Row → Reason
-first_of [] = Accepted
-first_of (row ∷ rows) = cond row.test row.reason (first_of rows)
+-- what the checks come to: no row holds, and the command is accepted, or the first that does refuses it
+abbrev pub Checked : Type 0
+Checked = Result Unit Reason
 
-unfoldable pub reason_for : Bool → Session → List ℕ → Bool → Needs → Bool → Reason
+-- no row holds
+pattern abbrev pub Accepted : Checked
+Accepted = Ok tt
+
+abbrev pub first_of : List Row → Checked
+first_of [] = Accepted
+first_of (row ∷ rows) = cond row.test (Err row.reason) (first_of rows)
+
+unfoldable pub reason_for : Bool → Session → List ℕ → Bool → Needs → Bool → Checked
 reason_for sound s registers known needs broken = first_of (table sound s registers known needs broken)
 
 -- the codes: 4 SYSTEM_ERROR, 8 SEQ_ERROR, 2 PARAM_ERROR, 6 BUSY, 7 WINDOW_ERROR, 1 SUCCESS; at versions 0 and 1
 -- code 2 stands for 8 and 5 for 6, at version 1 code 2 for 7 (version 0 does not know those commands). WRITE_ERROR (3) is told after a flush, in
 -- mailbox/specs/Commands.antt
-abbrev pub code_for : ℕ → Reason → ℕ
+abbrev pub code_for : ℕ → Checked → ℕ
 code_for version Accepted = 1
-code_for version System = 4
-code_for version Repeated = cond (ltb version 2) 2 8
-code_for version Unknown = 2
-code_for version Suspended = cond (ltb version 2) 5 6
-code_for version Windowless = cond (ltb version 2) 2 7
-code_for version Argument = 2
+code_for version (Err System) = 4
+code_for version (Err Repeated) = cond (ltb version 2) 2 8
+code_for version (Err Unknown) = 2
+code_for version (Err Suspended) = cond (ltb version 2) 5 6
+code_for version (Err Windowless) = cond (ltb version 2) 2 7
+code_for version (Err Argument) = 2

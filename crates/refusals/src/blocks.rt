@@ -1,6 +1,6 @@
 // The blocks of the window that the arguments of a command name.
 ghost use Rattle.std.specs.Prelude.{◌≡◌, not, ◌&&◌, ◌+◌, ◌-◌, ◌<◌, ◌≤◌, leb};
-ghost use Rattle.refusals.specs.Refusals.{blocks_named, flush_marks};
+ghost use Rattle.refusals.specs.Refusals.{range_of, blocks_named, flush_marks};
 
 use crate::BlockRange;
 use registers::{read_length, read_words};
@@ -11,16 +11,12 @@ use units::{Blocks, Bytes};
 pub fn flush_marks(session: Session, registers: [u8; 16]) -> bool
     ensures { result ≡ flush_marks session registers }
 {
-    if session.version < 2 {
-        read_length(registers) != 0
-    } else {
-        false
-    }
+    session.version < 2 && read_length(registers) != 0
 }
 
-// The window's blocks that MARK_DIRTY, ERASE, or FLUSH at version 1, names.
-pub fn blocks_named(session: Session, registers: [u8; 16]) -> BlockRange
-    ensures { result ≡ blocks_named session registers }
+// The window's blocks that MARK_DIRTY, ERASE, or FLUSH at version 1, names; none where they do not all lie in it.
+pub fn blocks_named(session: Session, registers: [u8; 16]) -> Option<BlockRange>
+    ensures { result ≡ range_of (blocks_named session registers) }
 {
     let words = read_words(registers);
     let named = Blocks(words.first as u32);
@@ -37,43 +33,37 @@ pub fn blocks_named(session: Session, registers: [u8; 16]) -> BlockRange
 pub fn flush_outside(session: Session, registers: [u8; 16]) -> bool
     ensures { result ≡ (flush_marks session registers && not (blocks_named session registers).inside) }
 {
-    if !flush_marks(session, registers) {
-        return false;
-    }
-    !blocks_named(session, registers).inside
+    flush_marks(session, registers) && blocks_named(session, registers).is_none()
 }
 
 // Version 1: blocks of the flash.
-fn flash_blocks(first: Blocks, size: Blocks, named: Blocks, count: Blocks) -> BlockRange
+fn flash_blocks(first: Blocks, size: Blocks, named: Blocks, count: Blocks) -> Option<BlockRange>
     requires { (first.0 < 65536) × (size.0 < 65536) × (named.0 < 65536) × (count.0 ≤ 1048576) }
-    ensures { result ≡ record {
+    ensures { result ≡ range_of (record {
       inside = leb first.0 named.0 && leb (named.0 + count.0) (first.0 + size.0);
       start = named.0 - first.0;
       count = count.0;
-    } }
+    }) }
 {
-    if named.0 < first.0 {
-        return BlockRange {
-            inside: false,
-            start: 0,
-            count: count.0,
-        };
+    if named.0 < first.0 || named.0 + count.0 > first.0 + size.0 {
+        return None;
     }
-    BlockRange {
-        inside: named.0 + count.0 <= first.0 + size.0,
+    Some(BlockRange {
         start: named.0 - first.0,
         count: count.0,
-    }
+    })
 }
 
 // Version 2: blocks of the window.
-fn window_blocks(size: Blocks, named: Blocks, count: Blocks) -> BlockRange
+fn window_blocks(size: Blocks, named: Blocks, count: Blocks) -> Option<BlockRange>
     requires { (named.0 < 65536) × (count.0 < 65536) }
-    ensures { result ≡ record { inside = leb (named.0 + count.0) size.0; start = named.0; count = count.0 } }
+    ensures { result ≡ range_of (record { inside = leb (named.0 + count.0) size.0; start = named.0; count = count.0 }) }
 {
-    BlockRange {
-        inside: named.0 + count.0 <= size.0,
+    if named.0 + count.0 > size.0 {
+        return None;
+    }
+    Some(BlockRange {
         start: named.0,
         count: count.0,
-    }
+    })
 }

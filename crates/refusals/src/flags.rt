@@ -9,9 +9,5 @@ use session::Session;
 pub fn undefined_flags(session: Session, registers: [u8; 16]) -> bool
     ensures { (S : ℕ) → result ≡ undefined_flags session registers S }
 {
-    if session.version < 2 {
-        false
-    } else {
-        registers[2] > 1
-    }
+    session.version >= 2 && registers[2] > 1
 }

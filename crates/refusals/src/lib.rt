@@ -9,13 +9,12 @@ mod checks;
 mod flags;
 
 pub use blocks::{blocks_named, flush_marks, flush_outside};
-pub use checks::{code_for, reason_for};
+pub use checks::{check, code_for};
 pub use flags::undefined_flags;
 
-// The first check of the table that refuses a command, or that none does.
+// The check of the table that refuses a command.
 #[derive(Clone, Copy)]
 pub enum Reason {
-    Accepted,
     System,
     Repeated,
     Unknown,
@@ -26,7 +25,7 @@ pub enum Reason {
 
 // What a command needs, each more than the one before: nothing, a sequence number that is not the previous one,
 // access to the flash, an active write window.
-#[derive(Clone, Copy)]
+#[derive(Clone, Copy, PartialEq, Eq, PartialOrd, Ord)]
 pub enum Needs {
     Nothing,
     NewNumber,
@@ -34,11 +33,9 @@ pub enum Needs {
     WriteWindow,
 }
 
-// The window's blocks that the arguments name, and whether all of them lie in it; where they do not, the blocks mean
-// nothing.
+// Blocks of the window.
 #[derive(Clone, Copy)]
 pub struct BlockRange {
-    pub inside: bool,
     pub start: u32,
     pub count: u32,
 }

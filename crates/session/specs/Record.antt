@@ -1,13 +1,11 @@
 -- The session record: document 01, "Session". A new field of the session is named in `fresh`, in the setters below and in C's record (crate
 -- board).
-use Rattle.std.specs.Prelude.{ℕ, Bool, false, List, replicate}
+use Rattle.std.specs.Prelude.{ℕ, Bool, false, Option, None, List, replicate}
 use Rattle.session.specs.Marks.{counts_of}
 use Rattle.session.specs.declared.Counts.{Counts}
 use Rattle.session.specs.declared.Session.{Session}
 use Rattle.session.specs.declared.Window.{Window}
 use Rattle.session.specs.declared.Window.TheVariants.{Closed}
-use Rattle.session.specs.declared.Previous.{Previous}
-use Rattle.session.specs.declared.Previous.TheVariants.{Absent}
 
 -- "all marks 0": the 64 marks of a session with nothing marked
 abbrev pub clean : List ℕ
@@ -18,7 +16,7 @@ abbrev pub fresh : Session
 fresh =
     record {
       version = 0;
-      previous = Absent;
+      previous = None;
       events = 0x81;
       suspended = false;
       window = Closed;
@@ -44,7 +42,7 @@ with_version version s =
     }
 
 -- the previous sequence number
-abbrev pub with_previous : Previous → Session → Session
+abbrev pub with_previous : Option ℕ → Session → Session
 with_previous previous s =
     record {
       version = s.version;

@@ -1,9 +1,18 @@
 -- Suspend and resume: document 01, the last paragraph of "Commands".
-use Rattle.std.specs.Prelude.{Bool, true, false, cond, not}
+use Rattle.std.specs.Prelude.{Bool, true, false, cond, not, Option, None, Some}
 use Rattle.session.specs.declared.Session.{Session}
-use Rattle.session.specs.declared.suspension.Suspension.{Suspension}
 use Rattle.session.specs.Events.{control_lost, window_reset, set_bits, clear_bits}
 use Rattle.session.specs.Record.{with_access, drop_window}
+
+-- the answer yes or no, and the session afterwards
+pub record Suspension : Type 0 where
+  pub done : Bool
+  pub session : Session
+
+-- as the code has them: none where the answer is no, with the session that it was given
+abbrev pub left : Session → Option Session → Suspension
+left before (Some after) = record { done = true; session = after }
+left before None = record { done = false; session = before }
 
 -- a call that has nothing to do "changes nothing and answers no; otherwise they answer yes"
 abbrev pub answer : Bool → Session → Session → Suspension

@@ -21,21 +21,14 @@ pub use setters::{
     with_access, with_counted, with_previous, with_version, with_window, without_marks,
     without_window,
 };
-pub use suspension::{Suspension, resume, resume_changed, suspend};
+pub use suspension::{resume, resume_changed, suspend};
 
 // The window: none, read or write.
-#[derive(Clone, Copy)]
+#[derive(Clone, Copy, PartialEq, Eq)]
 pub enum Window {
     Closed,
     Read,
     Write,
-}
-
-// The previous sequence number, if any.
-#[derive(Clone, Copy)]
-pub enum Previous {
-    Absent,
-    Number(u8),
 }
 
 // What a board fixes: the window's first LPC block, and the suggested timeout in seconds.
@@ -46,7 +39,7 @@ pub struct Board {
 }
 
 // How many blocks have each kind of mark.
-#[derive(Clone, Copy)]
+#[derive(Clone, Copy, PartialEq, Eq)]
 pub struct Counts {
     pub dirty: u8,
     pub erased: u8,
@@ -56,7 +49,8 @@ pub struct Counts {
 #[derive(Clone, Copy)]
 pub struct Session {
     pub version: u8,
-    pub previous: Previous,
+    // The previous sequence number, if any.
+    pub previous: Option<u8>,
     pub events: u8,
     pub suspended: bool,
     pub window: Window,
@@ -72,7 +66,7 @@ pub fn new_session() -> Session
 {
     Session {
         version: 0,
-        previous: Previous::Absent,
+        previous: None,
         events: 0x81,
         suspended: false,
         window: Window::Closed,

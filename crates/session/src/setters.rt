@@ -4,7 +4,7 @@ ghost use Rattle.std.specs.Prelude.{◌≡◌};
 ghost use Rattle.session.specs.Record.{with_version, with_previous, with_access, with_counted, with_marks, with_window, drop_window, clean};
 
 use crate::marks::{CLEAN, ZERO_COUNTS};
-use crate::{Counts, Previous, Session, Window};
+use crate::{Counts, Session, Window};
 
 // Another agreed version.
 pub fn with_version(session: Session, version: u8) -> Session
@@ -16,7 +16,7 @@ pub fn with_version(session: Session, version: u8) -> Session
 }
 
 // Another previous sequence number.
-pub fn with_previous(session: Session, previous: Previous) -> Session
+pub fn with_previous(session: Session, previous: Option<u8>) -> Session
     ensures { result ≡ with_previous previous session }
 {
     let window = session.window;

@@ -1,67 +1,38 @@
 // Suspend and resume: on any session, sound or not.
 ghost use Rattle.std.specs.Prelude.{◌≡◌};
-ghost use Rattle.session.specs.Suspension.{suspended, resumed, resumed_changed};
+ghost use Rattle.session.specs.Suspension.{left, suspended, resumed, resumed_changed};
 
 use crate::Session;
 use crate::events::{CONTROL_LOST, WINDOW_RESET};
 use crate::setters::{with_access, without_window};
 
-// The answer yes or no, and the session afterwards.
-#[derive(Clone, Copy)]
-pub struct Suspension {
-    pub done: bool,
-    pub session: Session,
-}
-
-// Flash access is suspended.
-pub fn suspend(session: Session) -> Suspension
-    ensures { result ≡ suspended session }
+// Flash access is suspended; none where it is already.
+pub fn suspend(session: Session) -> Option<Session>
+    ensures { left session result ≡ suspended session }
 {
     if session.suspended {
-        return Suspension {
-            done: false,
-            session,
-        };
+        return None;
     }
-    Suspension {
-        done: true,
-        session: with_access(session, true, session.events | CONTROL_LOST),
-    }
+    Some(with_access(session, true, session.events | CONTROL_LOST))
 }
 
-// Flash access is resumed, and the flash is as it was.
-pub fn resume(session: Session) -> Suspension
-    ensures { result ≡ resumed session }
+// Flash access is resumed, and the flash is as it was; none where it is not suspended.
+pub fn resume(session: Session) -> Option<Session>
+    ensures { left session result ≡ resumed session }
 {
     if !session.suspended {
-        return Suspension {
-            done: false,
-            session,
-        };
+        return None;
     }
-    Suspension {
-        done: true,
-        session: with_access(session, false, session.events & !CONTROL_LOST),
-    }
+    Some(with_access(session, false, session.events & !CONTROL_LOST))
 }
 
-// Flash access is resumed, and the flash was changed meanwhile: the window is dropped.
-pub fn resume_changed(session: Session) -> Suspension
-    ensures { result ≡ resumed_changed session }
+// Flash access is resumed, and the flash was changed meanwhile: the window is dropped. None where it is not suspended.
+pub fn resume_changed(session: Session) -> Option<Session>
+    ensures { left session result ≡ resumed_changed session }
 {
     if !session.suspended {
-        return Suspension {
-            done: false,
-            session,
-        };
+        return None;
     }
-    let dropped = without_window(session);
-    Suspension {
-        done: true,
-        session: with_access(
-            dropped,
-            false,
-            session.events & !CONTROL_LOST | WINDOW_RESET,
-        ),
-    }
+    let events = session.events & !CONTROL_LOST | WINDOW_RESET;
+    Some(with_access(without_window(session), false, events))
 }

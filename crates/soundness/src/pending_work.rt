@@ -8,28 +8,26 @@ use session::{Session, same_counts};
 // The chip actions of a dirty block: the erase, and 16 pages.
 const DIRTY_ACTIONS: u32 = 17;
 
-// How much is pending.
+// How much is pending: the number of marked blocks, and of the chip actions that their flush takes.
 #[derive(Clone, Copy)]
-pub enum PendingWork {
-    // A kept number disagrees with the marks.
-    Unsound,
-    // The number of marked blocks, and of the chip actions that their flush takes.
-    Marked { blocks: u32, actions: u32 },
+pub struct PendingWork {
+    pub blocks: u32,
+    pub actions: u32,
 }
 
-// Answers from the kept numbers, where they agree with the marks, whatever else the session is.
-pub fn pending(session: Session) -> PendingWork
+// Answers from the kept numbers, whatever else the session is; none where one disagrees with the marks.
+pub fn pending(session: Session) -> Option<PendingWork>
     ensures { result ≡ pending_in session }
 {
     let marks = session.marks;
     let counts = session.counts;
     if !same_counts(counts, look_at(marks, EVERY_BLOCK).counts) {
-        return PendingWork::Unsound;
+        return None;
     }
     let dirty = counts.dirty as u32;
     let erased = counts.erased as u32;
-    PendingWork::Marked {
+    Some(PendingWork {
         blocks: dirty + erased,
         actions: DIRTY_ACTIONS * dirty + erased,
-    }
+    })
 }
