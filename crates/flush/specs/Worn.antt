@@ -1,6 +1,6 @@
 -- Worn blocks: document 02, Ticket 8. `part` is the window's part of the map that is lent, so that blocks are counted within the window. Past its end a block counts
 -- as good, which a sound session never asks: only blocks of the window are marked.
-use Rattle.std.specs.Prelude.{ℕ, suc, Bool, false, cond, not, ◌&&◌, ◌||◌, List, [], ◌∷◌, ◌++◌, eqb, get_or, drop, replicate}
+use Rattle.std.specs.Prelude.{ℕ, suc, Option, None, Some, ltb, Bool, false, cond, not, ◌&&◌, ◌||◌, List, [], ◌∷◌, ◌++◌, eqb, get_or, drop, replicate}
 use Rattle.session.specs.Marks.{erases}
 use Rattle.flush.specs.Actions.{Action, erase, program}
 
@@ -30,6 +30,15 @@ finished_from part b (mark ∷ marks) = cond (erases mark && is_worn part b) 0 (
 
 unfoldable pub finished_blocks : List ℕ → List ℕ → ℕ
 finished_blocks part marks = finished_from part 0 marks
+
+-- the block that fails, if one does, as the code has it
+abbrev pub failing_block : List ℕ → List ℕ → Option ℕ
+failing_block part marks = cond (ltb (finished_blocks part marks) 64) (Some (finished_blocks part marks)) None
+
+-- and how many of the 64 blocks come before it
+abbrev pub finished_by : Option ℕ → ℕ
+finished_by None = 64
+finished_by (Some block) = block
 
 -- "Finished blocks become clean; the failing one and those behind it keep their marks": the marks where so many blocks are finished
 abbrev pub marks_behind : ℕ → List ℕ → List ℕ

@@ -10,5 +10,5 @@ mod marked;
 mod window;
 mod worn;
 
-pub use window::{ALL_BLOCKS, Flush, Step, advance, flush_window};
+pub use window::{Flush, StepError, advance, flush_window};
 pub use worn::left_marks;

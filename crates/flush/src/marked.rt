@@ -25,11 +25,8 @@ pub(crate) fn flush_marked(part: &mut [u8], memory: &[u8], marks: [u8; 64]) -> u
         × (part.new ≡ perform_all memory.now (flush_actions marks) part.old) }
 {
     let mut actions: u32 = 0;
-    let mut i: u32 = 0;
-    while i < 64 {
-        let at = i as usize;
-        actions += flush_block(part, memory, Blocks(i), marks[at]);
-        i += 1;
+    for i in 0..64u32 {
+        actions += flush_block(part, memory, Blocks(i), marks[i as usize]);
     }
     actions
 }
@@ -39,14 +36,11 @@ pub(crate) fn step_marked(part: &mut [u8], memory: &[u8], marks: [u8; 64], done:
     ensures { (result ≡ ltb done (length (flush_actions marks)))
         × (part.new ≡ perform_all memory.now (take 1 (drop done (flush_actions marks))) part.old) }
 {
-    let place = locate(marks, done);
-    match place {
-        Place::At { block, nth } => {
-            act(part, memory, Blocks(block), nth);
-            true
-        }
-        Place::Past => false,
-    }
+    let Some(place) = locate(marks, done) else {
+        return false;
+    };
+    act(part, memory, Blocks(place.block), place.nth);
+    true
 }
 
 // All actions of a block with a mark, and their number.
@@ -63,30 +57,26 @@ fn flush_block(part: &mut [u8], memory: &[u8], block: Blocks, mark: u8) -> u32
 fn erase_marked(part: &mut [u8], block: Blocks, mark: u8)
     ensures { part.new ≡ cond (erases mark) (erase_block block.0 part.old) part.old }
 {
-    if !mark_erases(mark) {
-        return;
+    if mark_erases(mark) {
+        erase_block(part, block);
     }
-    erase_block(part, block);
 }
 
 // The page actions of a block, if its mark asks for them.
 fn program_marked(part: &mut [u8], memory: &[u8], block: Blocks, mark: u8)
     ensures { part.new ≡ perform_all memory.now (cond (programs mark) (pages_from block.0 0 16) []) part.old }
 {
-    if !mark_programs(mark) {
-        return;
+    if mark_programs(mark) {
+        program_block(part, memory, block);
     }
-    program_block(part, memory, block);
 }
 
 // The page actions of a block, in rising order.
 fn program_block(part: &mut [u8], memory: &[u8], block: Blocks)
     ensures { part.new ≡ perform_all memory.now (pages_from block.0 0 16) part.old }
 {
-    let mut page: u32 = 0;
-    while page < PAGES {
+    for page in 0..PAGES {
         program_page(part, memory, block, page);
-        page += 1;
     }
 }
 
@@ -106,7 +96,7 @@ fn act(part: &mut [u8], memory: &[u8], block: Blocks, nth: u32)
 fn actions_of(mark: u8) -> u32
     ensures { result ≡ length (block_actions 0 mark) }
 {
-    let erase: u32 = if mark_erases(mark) { 1 } else { 0 };
+    let erase = u32::from(mark_erases(mark));
     let pages: u32 = if mark_programs(mark) { PAGES } else { 0 };
     erase + pages
 }
@@ -115,26 +105,24 @@ fn actions_of(mark: u8) -> u32
 fn first_action(mark: u8) -> u32
     ensures { result ≡ start_of mark }
 {
-    if mark_erases(mark) { 0 } else { 1 }
+    u32::from(!mark_erases(mark))
 }
 
-// The place of the action after the first so many.
-fn locate(marks: [u8; 64], done: u64) -> Place
+// The place of the action after the first so many; none past the end.
+fn locate(marks: [u8; 64], done: u64) -> Option<Place>
     ensures { Located (flush_actions marks) done result }
 {
     let mut left = done;
-    let mut i: u32 = 0;
-    while i < 64 {
-        let at = i as usize;
-        let count = actions_of(marks[at]);
-        if left < count as u64 {
-            return Place::At {
+    for i in 0..64u32 {
+        let mark = marks[i as usize];
+        let count = u64::from(actions_of(mark));
+        if left < count {
+            return Some(Place {
                 block: i,
-                nth: first_action(marks[at]) + left as u32,
-            };
+                nth: first_action(mark) + left as u32,
+            });
         }
-        left -= count as u64;
-        i += 1;
+        left -= count;
     }
-    Place::Past
+    None
 }

@@ -2,61 +2,55 @@
 ghost use Rattle.std.specs.Prelude.{◌≡◌, ◌+◌, ◌≤◌, ltb, length, take, drop};
 ghost use Rattle.session.specs.Machine.{lent};
 ghost use Rattle.flush.specs.Actions.{flush_actions};
-ghost use Rattle.flush.specs.Worn.{some_fail, finished_blocks};
+ghost use Rattle.flush.specs.Worn.{failing_block};
 ghost use Rattle.flush.specs.Window.{window_actions, part_end, window_worn, perform_in, stepped, advanced, flush_left, flush_whole};
 
 use crate::marked::{flush_marked, step_marked};
-use crate::worn::{finished_blocks, first_marks};
+use crate::worn::{failing_block, first_marks};
 use session::{Session, none_marked};
 use soundness::is_sound;
 use units::Blocks;
 
-// What advancing a flush by one action came to.
-#[derive(Clone, Copy)]
-pub enum Step {
+// Why a flush is not advanced.
+#[derive(Clone, Copy, PartialEq, Eq)]
+pub enum StepError {
     // The sizes or the session are not sound.
     Unsound,
     // Flash access is suspended.
     Suspended,
-    // One action was done.
-    Acted,
-    // All actions were done before.
-    Finished,
     // All actions before the erase of a worn block were done before.
     Failed,
 }
 
-// The blocks that a flush finishes in which no erase fails.
-pub const ALL_BLOCKS: u32 = 64;
-
-// What a whole flush came to: the number of its actions, and how many blocks come before the one whose erase failed, ALL_BLOCKS
-// where none did.
+// What a whole flush came to: the number of its actions, and the window's block whose erase failed, if one did.
 #[derive(Clone, Copy)]
 pub struct Flush {
     pub actions: u32,
-    pub finished: u32,
+    pub failed: Option<u32>,
 }
 
-// Advances the flush by one action, from the number of actions already done. Only the flash changes.
-pub fn advance(session: Session, flash: &mut [u8], worn: &[u8], memory: &[u8], done: u64) -> Step
+// Advances the flush by one action, from the number of actions already done, and answers whether one was left. Only the flash changes.
+pub fn advance(
+    session: Session,
+    flash: &mut [u8],
+    worn: &[u8],
+    memory: &[u8],
+    done: u64,
+) -> Result<bool, StepError>
     ensures { stepped result flash.new ≡ advanced (lent session flash.old worn.now memory.now) done }
 {
     if !is_sound(session, flash.len(), worn.len(), memory.len()) {
-        return Step::Unsound;
+        return Err(StepError::Unsound);
     }
     if session.suspended {
-        return Step::Suspended;
+        return Err(StepError::Suspended);
     }
-    let finished = finished_in(session, worn);
-    let marks = session.marks;
-    if step_part(session, first_marks(marks, finished), flash, memory, done) {
-        return Step::Acted;
+    let failed = failing_in(session, worn);
+    let acted = step_part(session, first_marks(session.marks, failed), flash, memory, done);
+    if !acted && failed.is_some() {
+        return Err(StepError::Failed);
     }
-    if finished < ALL_BLOCKS {
-        Step::Failed
-    } else {
-        Step::Finished
-    }
+    Ok(acted)
 }
 
 // Does the actions of a sound session's window, suspended or not, up to the first that fails.
@@ -66,33 +60,29 @@ pub fn flush_window(session: Session, flash: &mut [u8], worn: &[u8], memory: &[u
     if !is_sound(session, flash.len(), worn.len(), memory.len()) {
         return Flush {
             actions: 0,
-            finished: ALL_BLOCKS,
+            failed: None,
         };
     }
     // two numbers instead of 64 turns, where nothing is marked: half a microsecond of a create
-    let counts = session.counts;
-    if none_marked(counts) {
+    if none_marked(session.counts) {
         return Flush {
             actions: 0,
-            finished: ALL_BLOCKS,
+            failed: None,
         };
     }
-    let finished = finished_in(session, worn);
-    let marks = session.marks;
-    let actions = flush_part(session, first_marks(marks, finished), flash, memory);
-    Flush { actions, finished }
+    let failed = failing_in(session, worn);
+    let actions = flush_part(session, first_marks(session.marks, failed), flash, memory);
+    Flush { actions, failed }
 }
 
-// How many blocks of a window that lies in the map come before the first whose erase fails.
-fn finished_in(session: Session, worn: &[u8]) -> u32
+// The first block whose erase fails, of a window that lies in the map.
+fn failing_in(session: Session, worn: &[u8]) -> Option<u32>
     requires { session.first + session.size ≤ length worn.now }
-    ensures { (result ≡ finished_blocks (window_worn session worn.now) session.marks) × (result ≤ 64)
-        × (some_fail (window_worn session worn.now) (window_actions session) ≡ ltb result 64) }
+    ensures { result ≡ failing_block (window_worn session worn.now) session.marks }
 {
     let start = session.first as usize;
     let end = start + session.size as usize;
-    let marks = session.marks;
-    finished_blocks(&worn[start..end], marks)
+    failing_block(&worn[start..end], session.marks)
 }
 
 // All actions of these marks in a window that lies in the flash.

@@ -1,5 +1,5 @@
 -- A list of marks in one call: document 02, Ticket 4.
-use Rattle.std.specs.Prelude.{ℕ, suc, ◌+◌, ◌/◌, ◌%◌, Bool, true, false, cond, not, ◌&&◌, ◌||◌, List, [], ◌∷◌, leb, ltb, eqb, length, replicate}
+use Rattle.std.specs.Prelude.{Result, Ok, Err, ℕ, suc, ◌+◌, ◌/◌, ◌%◌, Bool, true, false, cond, not, ◌&&◌, ◌||◌, List, [], ◌∷◌, leb, ltb, eqb, length, replicate}
 use Rattle.buffers.specs.Ranges.{replace}
 use Rattle.session.specs.declared.Session.{Session}
 use Rattle.session.specs.Machine.{Setup, Machine, holding}
@@ -7,39 +7,46 @@ use Rattle.session.specs.Marks.{dirty}
 use Rattle.session.specs.Record.{with_marks}
 use Rattle.soundness.specs.Soundness.{sound_at}
 use Rattle.refusals.specs.Refusals.{is_write}
-use Rattle.marklist.specs.declared.ListAnswer.{ListAnswer}
-use Rattle.marklist.specs.declared.ListAnswer.TheVariants.{Marked, Unsound, OtherVersion, Suspended, Windowless, Malformed, Outside}
-use Rattle.marklist.specs.declared.Listed.{Listed}
+use Rattle.marklist.specs.declared.ListError.{ListError}
+use Rattle.marklist.specs.declared.ListError.TheVariants.{Unsound, OtherVersion, Suspended, Windowless, Malformed, Outside}
+
+-- what the call answers: no check refuses the list, and it is marked, or the first that does
+abbrev pub ListAnswer : Type 0
+ListAnswer = Result Unit ListError
+
+-- no check refuses
+pattern abbrev pub Marked : ListAnswer
+Marked = Ok tt
 
 -- "with codes 4, 2, 6, 7, 2, 2", and 01's SUCCESS
 abbrev pub list_code : ListAnswer → ℕ
 list_code Marked = 1
-list_code Unsound = 4
-list_code OtherVersion = 2
-list_code Suspended = 6
-list_code Windowless = 7
-list_code Malformed = 2
-list_code (Outside place) = 2
+list_code (Err Unsound) = 4
+list_code (Err OtherVersion) = 2
+list_code (Err Suspended) = 6
+list_code (Err Windowless) = 7
+list_code (Err Malformed) = 2
+list_code (Err (Outside place)) = 2
 
 -- "the answer names the first failing pair by its place", and no other answer names one
 abbrev pub names_pair : ListAnswer → Bool
 names_pair Marked = false
-names_pair Unsound = false
-names_pair OtherVersion = false
-names_pair Suspended = false
-names_pair Windowless = false
-names_pair Malformed = false
-names_pair (Outside place) = true
+names_pair (Err Unsound) = false
+names_pair (Err OtherVersion) = false
+names_pair (Err Suspended) = false
+names_pair (Err Windowless) = false
+names_pair (Err Malformed) = false
+names_pair (Err (Outside place)) = true
 
 -- that place, and 0 where none is named (house)
 abbrev pub place_named : ListAnswer → ℕ
 place_named Marked = 0
-place_named Unsound = 0
-place_named OtherVersion = 0
-place_named Suspended = 0
-place_named Windowless = 0
-place_named Malformed = 0
-place_named (Outside place) = place
+place_named (Err Unsound) = 0
+place_named (Err OtherVersion) = 0
+place_named (Err Suspended) = 0
+place_named (Err Windowless) = 0
+place_named (Err Malformed) = 0
+place_named (Err (Outside place)) = place
 
 -- "pairs of 16-bit numbers, window block and count"
 pub record Pair : Type 0 where
@@ -63,17 +70,17 @@ is_inside size pair = leb (pair.block + pair.count) size
 -- "the first failing pair by its place", counted from a place on; or that there is none
 abbrev pub first_outside : ℕ → ℕ → List Pair → ListAnswer
 first_outside size place [] = Marked
-first_outside size place (pair ∷ pairs) = cond (not (is_inside size pair)) (Outside place) (first_outside size (suc place) pairs)
+first_outside size place (pair ∷ pairs) = cond (not (is_inside size pair)) (Err (Outside place)) (first_outside size (suc place) pairs)
 
 -- "SYSTEM_ERROR, version not 2, suspended, no write window, odd length or more than 64 pairs, first bad pair, in that order"; from whether the lent
 -- sizes, B and the session keep the numbers
 unfoldable pub answer_for : Bool → List ℕ → Session → ListAnswer
 answer_for sound list s =
-    cond (not sound) Unsound
-    (cond (not (eqb s.version 2)) OtherVersion
-    (cond s.suspended Suspended
-    (cond (not (is_write s.window)) Windowless
-    (cond (malformed (length list)) Malformed
+    cond (not sound) (Err Unsound)
+    (cond (not (eqb s.version 2)) (Err OtherVersion)
+    (cond s.suspended (Err Suspended)
+    (cond (not (is_write s.window)) (Err Windowless)
+    (cond (malformed (length list)) (Err Malformed)
     (first_outside s.size 0 (pairs_of list))))))
 
 -- "marks them all dirty", pair after pair
@@ -89,12 +96,22 @@ is_listed (pair ∷ pairs) block = (leb pair.block block && ltb block (pair.bloc
 -- "If one would fail, nothing is marked"; "No sequence numbers are used or remembered"
 abbrev pub session_for : ListAnswer → List ℕ → Session → Session
 session_for Marked list s = with_marks (mark_pairs (pairs_of list) s.marks) s
-session_for Unsound list s = s
-session_for OtherVersion list s = s
-session_for Suspended list s = s
-session_for Windowless list s = s
-session_for Malformed list s = s
-session_for (Outside place) list s = s
+session_for (Err Unsound) list s = s
+session_for (Err OtherVersion) list s = s
+session_for (Err Suspended) list s = s
+session_for (Err Windowless) list s = s
+session_for (Err Malformed) list s = s
+session_for (Err (Outside place)) list s = s
+
+-- the session that the call leaves, and what it answers
+pub record Listed : Type 0 where
+  pub session : Session
+  pub answer : ListAnswer
+
+-- as the code has them: a call that is refused leaves the session that it was given
+abbrev pub left : Session → Result Session ListError → Listed
+left before (Ok after) = record { session = after; answer = Marked }
+left before (Err refused) = record { session = before; answer = Err refused }
 
 -- what the call answers and leaves, of the lengths of the flash, its map and the window memory in bytes
 unfoldable pub listed : Setup → ℕ → ℕ → ℕ → List ℕ → Session → Listed

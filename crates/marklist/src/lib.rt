@@ -8,7 +8,7 @@ mod pairs;
 
 ghost use Rattle.std.specs.Prelude.{◌≡◌};
 ghost use Rattle.session.specs.Machine.{set_up};
-ghost use Rattle.marklist.specs.MarkList.{malformed, answer_for, listed};
+ghost use Rattle.marklist.specs.MarkList.{left, malformed, answer_for, listed};
 
 use pairs::{first_outside, mark_pairs};
 use session::{Board, Session, Window};
@@ -17,10 +17,9 @@ use soundness::{is_sound_at, with_marks};
 // The most pairs of a list.
 const MOST_PAIRS: usize = 64;
 
-// The first check that refuses the list, or that it is marked.
-#[derive(Clone, Copy)]
-pub enum ListAnswer {
-    Marked,
+// The check that refuses a list.
+#[derive(Clone, Copy, PartialEq, Eq)]
+pub enum ListError {
     Unsound,
     OtherVersion,
     Suspended,
@@ -29,13 +28,6 @@ pub enum ListAnswer {
     Malformed,
     // The first pair that does not lie in the window, by its place from 0.
     Outside(u8),
-}
-
-// What the call gives back.
-#[derive(Clone, Copy)]
-pub struct Listed {
-    pub session: Session,
-    pub answer: ListAnswer,
 }
 
 // Marks all pairs of the list dirty, or changes nothing. The previous sequence number has no part in it.
@@ -47,42 +39,33 @@ pub fn mark_list(
     flash: usize,
     worn: usize,
     memory: usize,
-) -> Listed
-    ensures { result ≡ listed (set_up board) flash worn memory list.now session }
+) -> Result<Session, ListError>
+    ensures { left session result ≡ listed (set_up board) flash worn memory list.now session }
 {
     let sound = is_sound_at(session, board, flash, worn, memory);
-    let answer = check(session, list, sound);
-    let ListAnswer::Marked = answer else {
-        return Listed { session, answer };
-    };
-    let marks = session.marks;
-    let marked = mark_pairs(marks, list);
-    Listed {
-        session: with_marks(session, marked),
-        answer,
-    }
+    check(session, list, sound)?;
+    Ok(with_marks(session, mark_pairs(session.marks, list)))
 }
 
 // The checks in their order: the pairs last, all of them before one is marked.
 #[tactic(auto, unfolding(crate::specs::MarkList::answer_for))]
-fn check(session: Session, list: &[u16], sound: bool) -> ListAnswer
+fn check(session: Session, list: &[u16], sound: bool) -> Result<(), ListError>
     ensures { result ≡ answer_for sound list.now session }
 {
     if !sound {
-        return ListAnswer::Unsound;
+        return Err(ListError::Unsound);
     }
     if session.version != 2 {
-        return ListAnswer::OtherVersion;
+        return Err(ListError::OtherVersion);
     }
     if session.suspended {
-        return ListAnswer::Suspended;
+        return Err(ListError::Suspended);
     }
-    let window = session.window;
-    let Window::Write = window else {
-        return ListAnswer::Windowless;
-    };
+    if session.window != Window::Write {
+        return Err(ListError::Windowless);
+    }
     if is_malformed(list.len()) {
-        return ListAnswer::Malformed;
+        return Err(ListError::Malformed);
     }
     first_outside(list, session.size)
 }
@@ -91,8 +74,5 @@ fn check(session: Session, list: &[u16], sound: bool) -> ListAnswer
 fn is_malformed(numbers: usize) -> bool
     ensures { result ≡ malformed numbers }
 {
-    if numbers % 2 == 1 {
-        return true;
-    }
-    MOST_PAIRS < numbers / 2
+    numbers % 2 == 1 || MOST_PAIRS < numbers / 2
 }

@@ -1,16 +1,15 @@
 // The pairs of a list: checked, and marked.
 ghost use Rattle.std.specs.Prelude.{◌≡◌, cond, ℕ, suc, ◌+◌, ◌≤◌, ◌<◌, leb, ltb, length, get_or};
 ghost use Rattle.session.specs.Marks.{dirty};
-ghost use Rattle.marklist.specs.declared.ListAnswer.TheVariants.{Marked};
-ghost use Rattle.marklist.specs.MarkList.{pairs_of, first_outside, mark_pairs};
+ghost use Rattle.marklist.specs.MarkList.{Marked, pairs_of, first_outside, mark_pairs};
 ghost use Rattle.marklist.specs.Reach.{ends_from, no_ends, farthest};
 
-use crate::ListAnswer;
+use crate::ListError;
 use session::DIRTY;
 use soundness::larger;
 
 // The first pair that does not lie in a window of this size, or that all may be marked.
-pub(crate) fn first_outside(list: &[u16], size: u16) -> ListAnswer
+pub(crate) fn first_outside(list: &[u16], size: u16) -> Result<(), ListError>
     requires { length list.now ≤ 128 }
     ensures { result ≡ first_outside size 0 (pairs_of list.now) }
 {
@@ -19,11 +18,11 @@ pub(crate) fn first_outside(list: &[u16], size: u16) -> ListAnswer
     while place < pairs {
         let at = 2 * place;
         if !is_inside(list[at], list[at + 1], size) {
-            return ListAnswer::Outside(place as u8);
+            return Err(ListError::Outside(place as u8));
         }
         place += 1;
     }
-    ListAnswer::Marked
+    Ok(())
 }
 
 // All blocks of a pair lie in a window of this size.

@@ -2,7 +2,7 @@
 use mathlib.Core.Path.{◌≡◌, refl, sym, subst, ◌∙◌}
 use mathlib.Core.Bool.{false, cond, not, ◌&&◌, false≢true}
 use mathlib.Core.List.{List, [], ◌∷◌}
-use mathlib.Core.Option.{Option, none, some}
+use Rattle.std.specs.Prelude.{Option, None, Some}
 use Prim.Native.Nat.{ℕ}
 use lib.Dec.{eqb, ltb}
 use lib.ListN.{length, get_or, replicate}
@@ -16,25 +16,25 @@ use Rattle.messages.specs.Parameters.{Parameter, y, q, u, Row, table, row_in, ro
 
 abbrev pub Every : (ℕ → ℕ → Option Row → Type 0) → List Row → Type 0
 Every P [] = Unit
-Every P (r ∷ rows) = P r.code r.version (some r) × Every P rows
+Every P (r ∷ rows) = P r.code r.version (Some r) × Every P rows
 
 infixr 40 ◌&◌
 -- an answer for each row, one after the other
 abbrev pub ◌&◌ : {A B : Type 0} → A → B → A × B
 a & b = (a, b)
 
-each_in : (P : ℕ → ℕ → Option Row → Type 0) (rows : List Row) → Every P rows → ((code version : ℕ) → P code version none)
+each_in : (P : ℕ → ℕ → Option Row → Type 0) (rows : List Row) → Every P rows → ((code version : ℕ) → P code version None)
     → (code version : ℕ) → P code version (row_in rows code version)
 each_in P [] e n code version = n code version
 each_in P (r ∷ rows) e n code version =
-    chosen (P code version) (eqb version r.version && eqb code r.code) (some r) (row_in rows code version)
+    chosen (P code version) (eqb version r.version && eqb code r.code) (Some r) (row_in rows code version)
     (λ t.
     let h = both (eqb version r.version) (eqb code r.code) t in
-    subst (λ (k : ℕ). P k version (some r)) (sym (eqb-true code r.code h.1))
-    (subst (λ (k : ℕ). P r.code k (some r)) (sym (eqb-true version r.version h.0)) e.0))
+    subst (λ (k : ℕ). P k version (Some r)) (sym (eqb-true code r.code h.1))
+    (subst (λ (k : ℕ). P r.code k (Some r)) (sym (eqb-true version r.version h.0)) e.0))
     (λ _. each_in P rows e.1 n code version)
 
-pub each_row : (P : ℕ → ℕ → Option Row → Type 0) → Every P table → ((code version : ℕ) → P code version none)
+pub each_row : (P : ℕ → ℕ → Option Row → Type 0) → Every P table → ((code version : ℕ) → P code version None)
     → (code version : ℕ) → P code version (row_of code version)
 unfolding row_of
 each_row P e n code version = each_in P table e n code version
@@ -52,8 +52,8 @@ known_asked =
 
 pub wrong_as : (o : Option Row) (count : ℕ) → eqb (asked o) 255 ≡ not (is_row o)
     → wrong_length o count ≡ cond (eqb (asked o) 255) false (not (eqb count (asked o)))
-wrong_as none count e = refl
-wrong_as (some r) count e = rw e
+wrong_as None count e = refl
+wrong_as (Some r) count e = rw e
 
 -- the commands whose response has no parameter at any version
 pub told_nothing : (code version : ℕ) → (code ≡ 2 → ⊥) → (code ≡ 3 → ⊥) → (code ≡ 4 → ⊥) → (code ≡ 6 → ⊥) → told (row_of code version) ≡ 0

@@ -1,7 +1,6 @@
 -- Hiomap commands as messages: 000 and 002, "IPMI Transport", and document 02, Ticket 6. A message is taken or refused, unpacked to the registers of a mailbox
 -- command, and answered from the registers that the mediator leaves.
-use Rattle.std.specs.Prelude.{Result, Ok, Err, ℕ, ◌+◌, ◌-◌, ◌*◌, ◌/◌, ◌%◌, Bool, false, cond, not, ◌&&◌, ◌||◌, List, [], ◌∷◌, ◌++◌, eqb, ltb, length, get_or, take, drop, replicate}
-use Rattle.std.proofs.Math.Option.{Option, none, some}
+use Rattle.std.specs.Prelude.{Option, None, Some, Result, Ok, Err, ℕ, ◌+◌, ◌-◌, ◌*◌, ◌/◌, ◌%◌, Bool, false, cond, not, ◌&&◌, ◌||◌, List, [], ◌∷◌, ◌++◌, eqb, ltb, length, get_or, take, drop, replicate}
 use Rattle.buffers.specs.Ranges.{range, replace}
 use Rattle.registers.specs.Registers.{command_of, sequence_of, padded}
 use Rattle.messages.specs.declared.Pair.{Pair}
@@ -38,8 +37,8 @@ is_own pair message = eqb (network_function_of message) pair.netfn && eqb (ipmi_
 
 -- "a wrong length for a known command at its version"; "A command unknown at the version goes to the mediator at any length"
 abbrev pub wrong_length : Option Row → ℕ → Bool
-wrong_length none count = false
-wrong_length (some r) count = not (eqb count (bytes_in r.request))
+wrong_length None count = false
+wrong_length (Some r) count = not (eqb count (bytes_in r.request))
 
 -- "under four bytes, or a wrong length"
 abbrev pub malformed : ℕ → List ℕ → Bool
@@ -61,8 +60,8 @@ unpacked (p ∷ ps) given arguments = unpacked ps given (replace p.mailbox (rang
 
 -- the 11 arguments, zero where no parameter stands; of an unknown command byte for byte, those past the eleventh dropped (house)
 abbrev pub arguments_of : Option Row → List ℕ → List ℕ
-arguments_of none given = padded given
-arguments_of (some r) given = unpacked r.request given (replicate 11 0)
+arguments_of None given = padded given
+arguments_of (Some r) given = unpacked r.request given (replicate 11 0)
 
 -- the registers that the mediator gets: 13 to 15, which it only fills or hands back, are zero (house)
 abbrev pub registers_of : ℕ → List ℕ → List ℕ
@@ -106,8 +105,8 @@ packed_from ps registers = packed ps (range 2 11 registers) (replicate (bytes_in
 
 -- those of a response, by its row; a command that the version does not know has none
 abbrev pub values_of : Option Row → List ℕ → List ℕ
-values_of none registers = []
-values_of (some r) registers = packed_from r.response registers
+values_of None registers = []
+values_of (Some r) registers = packed_from r.response registers
 
 -- "13 the response" (01)
 abbrev pub status_of : List ℕ → ℕ

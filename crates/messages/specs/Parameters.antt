@@ -1,7 +1,6 @@
 -- The parameters of every command at versions 0 to 2: the tables of 000 and 002, "Command Definitions", in their order. The check of a message's length, its
 -- unpacking and the packing of its response all go by this one table.
-use Rattle.std.specs.Prelude.{ℕ, ◌+◌, Bool, true, false, cond, ◌&&◌, List, [], ◌∷◌, eqb}
-use Rattle.std.proofs.Math.Option.{Option, none, some}
+use Rattle.std.specs.Prelude.{Option, None, Some, ℕ, ◌+◌, Bool, true, false, cond, ◌&&◌, List, [], ◌∷◌, eqb}
 
 -- a parameter: its size in bytes, and its offset "in the message (disregarding the command and sequence bytes)" by mailbox, column M, and by message, column I
 pub record Parameter : Type 0 where
@@ -70,16 +69,16 @@ table =
 
 -- the row of a command and a version, if the version knows the command
 abbrev pub row_in : List Row → ℕ → ℕ → Option Row
-row_in [] code version = none
-row_in (r ∷ rows) code version = cond (eqb version r.version && eqb code r.code) (some r) (row_in rows code version)
+row_in [] code version = None
+row_in (r ∷ rows) code version = cond (eqb version r.version && eqb code r.code) (Some r) (row_in rows code version)
 
 unfoldable pub row_of : ℕ → ℕ → Option Row
 row_of code version = row_in table code version
 
 -- "a known command at its version": the table has a row of it
 abbrev pub is_row : Option Row → Bool
-is_row none = false
-is_row (some r) = true
+is_row None = false
+is_row (Some r) = true
 
 abbrev pub is_known : ℕ → ℕ → Bool
 is_known code version = is_row (row_of code version)

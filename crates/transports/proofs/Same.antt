@@ -2,7 +2,7 @@
 use mathlib.Core.Path.{◌≡◌, refl, sym, ap, subst, ◌∙◌}
 use mathlib.Core.Bool.{true, false, cond}
 use mathlib.Core.List.{List, [], ◌∷◌, ◌++◌}
-use mathlib.Core.Option.{Option, none, some}
+use Rattle.std.specs.Prelude.{Option, None, Some}
 use mathlib.Core.Logic.{⊎_elim}
 use Prim.Native.Nat.{ℕ, ◌+◌, ◌<◌}
 use native.Mathlib.Omega.{arith}
@@ -31,8 +31,8 @@ use Rattle.transports.proofs.Whole.{Whole, success_whole}
 
 -- ---- a response has nothing of registers 14 and 15
 values_front : (o : Option Row) (registers : List ℕ) → length registers ≡ 16 → values_of o registers ≡ values_of o (elements 14 0 registers)
-values_front none registers l = refl
-values_front (some r) registers l =
+values_front None registers l = refl
+values_front (Some r) registers l =
     subst (λ (t : List ℕ). packed_from r.response t ≡ packed_from r.response (elements 14 0 registers)) (elements_of 16 registers l) refl
 
 response_front : (version : ℕ) (message registers : List ℕ) → length registers ≡ 16
@@ -87,12 +87,12 @@ module _ (a b : ℕ) (registers : List ℕ) (l : length registers ≡ 16) where
 
 -- those of a row, or none
 values_as : (o : Option Row) (registers : List ℕ) → values_of o registers ≡ packed_from (answers o) registers
-values_as none registers = refl
-values_as (some r) registers = refl
+values_as None registers = refl
+values_as (Some r) registers = refl
 
 told_as : (o : Option Row) → told o ≡ bytes_in (answers o)
-told_as none = refl
-told_as (some r) = refl
+told_as None = refl
+told_as (Some r) = refl
 
 -- ---- the completion code
 completion_as : (s : ℕ) → s < 128 → completion_of s ≡ 0x80 + s

@@ -1,6 +1,5 @@
 -- The table of parameters beside what the papers say of all commands, with their own numbers: documents 01, 000 and 002. Proved in proofs/Known.antt.
-use Rattle.std.specs.Prelude.{ℕ, ◌+◌, ◌≤◌, ◌≡◌, Bool, true, false, ◌&&◌, List, [], ◌∷◌, eqb, leb}
-use Rattle.std.proofs.Math.Option.{Option, none, some}
+use Rattle.std.specs.Prelude.{Option, None, Some, ℕ, ◌+◌, ◌≤◌, ◌≡◌, Bool, true, false, ◌&&◌, List, [], ◌∷◌, eqb, leb}
 use Rattle.messages.specs.Parameters.{Parameter, Row, row_of, is_known}
 use Rattle.invariants.specs.Codes.{knows}
 
@@ -22,8 +21,8 @@ has_room (p ∷ ps) = leb (p.mailbox + p.size) 11 && has_room ps
 
 -- both, of what a command is sent and answered
 abbrev pub IsLaidOut : Option Row → Type 0
-IsLaidOut none = Unit
-IsLaidOut (some r) =
+IsLaidOut None = Unit
+IsLaidOut (Some r) =
     (is_packed 0 r.request ≡ true) × (is_packed 0 r.response ≡ true) × (has_room r.request ≡ true) × (has_room r.response ≡ true)
 
 -- the claim, of every row

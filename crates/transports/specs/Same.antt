@@ -1,7 +1,6 @@
 -- "the same command by mailbox and by KCS leaves the same session, flash and window memory and the same answer values": document 02, Ticket 6, here of the
 -- message itself; Kcs.antt has its way through the port. Proved in proofs/Same.antt.
-use Rattle.std.specs.Prelude.{ℕ, ◌+◌, ◌-◌, ◌*◌, ◌<◌, ◌≡◌, cond, List, [], ◌∷◌, eqb, length, get_or, drop, replicate}
-use Rattle.std.proofs.Math.Option.{Option, none, some}
+use Rattle.std.specs.Prelude.{Option, None, Some, ℕ, ◌+◌, ◌-◌, ◌*◌, ◌<◌, ◌≡◌, cond, List, [], ◌∷◌, eqb, length, get_or, drop, replicate}
 use Rattle.buffers.specs.Ranges.{range}
 use Rattle.session.specs.Machine.{Setup, Machine}
 use Rattle.registers.specs.Registers.{command_of, sequence_of}
@@ -16,8 +15,8 @@ use Rattle.ipmi.specs.Served.{Served, served}
 
 -- its parameters, each from its M offset to its I offset; of a command that the version does not know all 11 arguments
 abbrev pub given_by : Option Row → List ℕ → List ℕ
-given_by none registers = range 2 11 registers
-given_by (some r) registers = packed_from r.request registers
+given_by None registers = range 2 11 registers
+given_by (Some r) registers = packed_from r.request registers
 
 -- for a board's pair, with any LUN, at a version
 abbrev pub message_of : Pair → ℕ → ℕ → List ℕ → List ℕ
@@ -39,8 +38,8 @@ status_told completion = cond (eqb completion 0) 1 (completion - 0x80)
 
 -- the parameters of a response
 abbrev pub answers : Option Row → List Parameter
-answers none = []
-answers (some r) = r.response
+answers None = []
+answers (Some r) = r.response
 
 -- each has the same bytes at its I offset of the response, behind the completion code, the command and the sequence number, and at its M offset of the
 -- registers' arguments
