@@ -1,12 +1,11 @@
 -- What each command leaves, in the order of document 01, "Commands", with 02's tickets. The session of each is that of an answered command: its number is the
 -- previous one already.
-use Rattle.std.specs.Prelude.{ℕ, ◌-◌, min, cond, List, [], ◌∷◌, ◌++◌, eqb, ltb, length, replicate}
+use Rattle.std.specs.Prelude.{ℕ, ◌-◌, min, cond, Some, List, [], ◌∷◌, ◌++◌, eqb, ltb, length, replicate}
 use Rattle.units.specs.Units.{block_bytes, to_bytes, round_up}
 use Rattle.buffers.specs.Ranges.{range, replace}
 use Rattle.chip.specs.Actions.{erased}
 use Rattle.session.specs.declared.Session.{Session}
 use Rattle.session.specs.declared.Window.{Window}
-use Rattle.session.specs.declared.Previous.TheVariants.{Number}
 use Rattle.session.specs.Events.{acknowledged}
 use Rattle.session.specs.Machine.{Setup, Machine, lent, holding}
 use Rattle.session.specs.Marks.{dirty, erased_mark}
@@ -45,7 +44,7 @@ answered s registers code arguments actions = answer_with s registers code (padd
 
 -- "Every other answered command makes its number the previous one"
 abbrev pub numbered : Session → List ℕ → Session
-numbered s registers = with_previous (Number (sequence_of registers)) s
+numbered s registers = with_previous (Some (sequence_of registers)) s
 
 -- what a call is given, with its number as the previous one
 abbrev pub numbered_in : List ℕ → Machine → Machine

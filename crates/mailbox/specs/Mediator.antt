@@ -1,12 +1,11 @@
 -- What a mailbox command leaves, for every content of the registers, every session and every buffer: document 01, "Registers" and "Commands".
-use Rattle.std.specs.Prelude.{ℕ, Bool, cond, List, [], ◌∷◌, eqb, length, get_or}
+use Rattle.std.specs.Prelude.{ℕ, Bool, cond, Err, List, [], ◌∷◌, eqb, length, get_or}
 use Rattle.units.specs.Units.{round_up}
 use Rattle.session.specs.Machine.{Setup, Machine}
 use Rattle.soundness.specs.Soundness.{sound_in}
-use Rattle.refusals.specs.declared.Reason.{Reason}
-use Rattle.refusals.specs.declared.Reason.TheVariants.{Accepted, System, Repeated, Unknown, Suspended, Windowless, Argument}
+use Rattle.refusals.specs.declared.Reason.TheVariants.{System, Repeated, Unknown, Suspended, Windowless, Argument}
 use Rattle.registers.specs.Registers.{command_of}
-use Rattle.refusals.specs.Refusals.{reason_for, code_for}
+use Rattle.refusals.specs.Refusals.{Checked, Accepted, reason_for, code_for}
 use Rattle.mailbox.specs.Commands.{Outcome, refused, numbered_in}
 use Rattle.mailbox.specs.Table.{Command, published, unknown}
 
@@ -19,19 +18,19 @@ unfoldable pub command_at : ℕ → Command
 command_at code = row_of code published
 
 -- the first check that refuses a command, from whether the lent sizes, B and the session keep the numbers
-abbrev pub reason_of : Command → Bool → List ℕ → Machine → Reason
+abbrev pub reason_of : Command → Bool → List ℕ → Machine → Checked
 reason_of c sound registers m =
     reason_for sound m.session registers (c.known m.session.version) c.needs (c.broken m.session registers (round_up (length m.flash)))
 
 -- what is left, by that check; "SYSTEM_ERROR keeps even that", the previous number
-unfoldable pub answer_to : Reason → Command → Setup → List ℕ → Machine → Outcome
+unfoldable pub answer_to : Checked → Command → Setup → List ℕ → Machine → Outcome
 answer_to Accepted c setup registers m = c.leaves setup registers (numbered_in registers m)
-answer_to System c setup registers m = refused (code_for m.session.version System) registers m
-answer_to Repeated c setup registers m = refused (code_for m.session.version Repeated) registers (numbered_in registers m)
-answer_to Unknown c setup registers m = refused (code_for m.session.version Unknown) registers (numbered_in registers m)
-answer_to Suspended c setup registers m = refused (code_for m.session.version Suspended) registers (numbered_in registers m)
-answer_to Windowless c setup registers m = refused (code_for m.session.version Windowless) registers (numbered_in registers m)
-answer_to Argument c setup registers m = c.when_broken (code_for m.session.version Argument) registers (numbered_in registers m)
+answer_to (Err System) c setup registers m = refused (code_for m.session.version (Err System)) registers m
+answer_to (Err Repeated) c setup registers m = refused (code_for m.session.version (Err Repeated)) registers (numbered_in registers m)
+answer_to (Err Unknown) c setup registers m = refused (code_for m.session.version (Err Unknown)) registers (numbered_in registers m)
+answer_to (Err Suspended) c setup registers m = refused (code_for m.session.version (Err Suspended)) registers (numbered_in registers m)
+answer_to (Err Windowless) c setup registers m = refused (code_for m.session.version (Err Windowless)) registers (numbered_in registers m)
+answer_to (Err Argument) c setup registers m = c.when_broken (code_for m.session.version (Err Argument)) registers (numbered_in registers m)
 
 -- what one command leaves, refused or carried out
 unfoldable pub obeyed : Command → Bool → Setup → List ℕ → Machine → Outcome
@@ -41,7 +40,7 @@ obeyed c sound setup registers m = answer_to (reason_of c sound registers m) c s
 abbrev pub command_in : List ℕ → Command
 command_in registers = command_at (command_of registers)
 
-abbrev pub reason_in : Setup → List ℕ → Machine → Reason
+abbrev pub reason_in : Setup → List ℕ → Machine → Checked
 reason_in setup registers m = reason_of (command_in registers) (sound_in setup m) registers m
 
 -- what a call leaves of what it is given
