@@ -22,6 +22,7 @@ pub struct Look {
 // All marks are looked at, whatever the first ones are: a loop without a way out, with a count as narrow as
 // a mark beside the place, compiles to a few vector instructions. So it keeps the largest mark and where the
 // last marked block ends, and compares them when it is over.
+#[tactic(auto, using(crate::proofs::SoundMarks::looked_more, crate::proofs::Counting::counts_more, crate::proofs::Counting::few_counted))]
 pub(crate) fn look_at(marks: [u8; 64], markable: u16) -> Look
     ensures { (result.within ≡ marks_sound markable marks) × (result.counts ≡ counts_of marks) }
 {
