@@ -8,7 +8,7 @@ use native.Mathlib.Nat.{not-suc-le-zero, le_of_suc-le-suc}
 use native.Mathlib.Numerals.{add-one}
 use native.Mathlib.Omega.{arith}
 use lib.Dec.{leb, eqb}
-use lib.ListN.{length, get_or, take, drop, length-append, length-drop}
+use lib.ListN.{length, get_or, take, drop, length-append, length-drop, drop_of_length-le}
 use lib.Seq.{take-suc, take-append-le, drop-append-le, drop-append-add, split_at, length-take-le}
 use borrow.Author.Tests.{ne_eqb, eqb-true, leb-true}
 use Rattle.units.proofs.Cases.{decided, chosen, both}
@@ -37,6 +37,10 @@ perform_append memory (x ∷ xs) ys flash = perform_append memory xs ys (perform
 pub erase_is : (memory : List ℕ) (b : ℕ) (flash : List ℕ) → perform_all memory (erase b ∷ []) flash ≡ erase_block b flash
 unfolding perform_all perform
 erase_is memory b flash = refl
+
+-- past the end of the list nothing is done
+pub none_left : (memory flash : List ℕ) (actions : List Action) (done : ℕ) → length actions ≤ done → perform_all memory (take 1 (drop done actions)) flash ≡ flash
+none_left memory flash actions done h = ap (λ (xs : List Action). perform_all memory (take 1 xs) flash) (drop_of_length-le actions h) ∙ perform_none memory flash
 
 -- ---- the pages of a block
 pub pages_length : (b p n : ℕ) → length (pages_from b p n) ≡ n
@@ -265,7 +269,7 @@ module _ (marks : List ℕ) (i : ℕ) (h : i < length marks) where
       ∙ ap (λ (n : ℕ). length (flush_actions (take i marks)) + n) (block_count i (get_or marks i 0))
 
   -- the action at a place within block i
-  pub nth_of_lem : (left : ℕ) → left < count_of (get_or marks i 0)
+  pub nth_of_lem : (left : ℕ) → left < length (block_actions 0 (get_or marks i 0))
       → (left + length (flush_actions (take i marks)) < length (flush_actions marks))
       × (take 1 (drop (left + length (flush_actions (take i marks))) (flush_actions marks)) ≡ nth_of i (start_of (get_or marks i 0) + left) ∷ [])
   nth_of_lem left k = (within, found)
@@ -280,7 +284,7 @@ module _ (marks : List ℕ) (i : ℕ) (h : i < length marks) where
       R = actions_from (suc i) (drop (suc i) marks)
 
       few : left < length B
-      few = rw (block_count i (get_or marks i 0)) k
+      few = rw (block_count i (get_or marks i 0), sym (block_count 0 (get_or marks i 0))) k
 
       lengths : length (flush_actions marks) ≡ length A + (length B + length R)
       lengths = ap length actions_split ∙ length-append A (B ++ R) ∙ ap (λ (n : ℕ). length A + n) (length-append B R)
@@ -304,7 +308,8 @@ module _ (marks : List ℕ) (i : ℕ) (h : i < length marks) where
 
 -- ---- one page more
 pub pages_done : (memory flash : List ℕ) (b n : ℕ)
-    → perform memory (program b n) (perform_all memory (pages_from b 0 n) flash) ≡ perform_all memory (pages_from b 0 (n + 1)) flash
+    → program_page b n memory (perform_all memory (pages_from b 0 n) flash) ≡ perform_all memory (pages_from b 0 (n + 1)) flash
+unfolding perform
 pages_done memory flash b n =
     let page : 0 + n ≡ n = omega arith in
     sym

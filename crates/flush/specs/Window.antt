@@ -1,5 +1,5 @@
 -- The flush of a session's window: document 01, "Chip actions", and 02, Ticket 8.
-use Rattle.std.specs.Prelude.{ℕ, ◌+◌, Bool, true, false, cond, not, ◌&&◌, Option, None, Some, is_some, Result, Ok, Err, List, ltb, length, take, drop}
+use Rattle.std.specs.Prelude.{ℕ, ◌+◌, Bool, false, cond, not, ◌&&◌, Option, None, Some, is_some, Result, Ok, Err, List, ltb, length, take, drop}
 use Rattle.buffers.specs.Ranges.{range, replace}
 use Rattle.units.specs.Units.{to_bytes}
 use Rattle.session.specs.declared.Session.{Session}

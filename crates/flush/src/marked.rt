@@ -5,12 +5,9 @@ ghost use Rattle.session.specs.Marks.{erases, programs};
 ghost use Rattle.flush.specs.Actions.{pages_from, block_actions, flush_actions, perform_all};
 ghost use Rattle.flush.specs.Locate.{Located, nth_of, start_of};
 
-use chip::{erase_block, program_page};
+use chip::{PAGES, erase_block, program_page};
 use session::{mark_erases, mark_programs};
 use units::Blocks;
-
-// The pages of a block.
-const PAGES: u32 = 16;
 
 // Where an action stands: its block, and which of the block's actions it is.
 #[derive(Clone, Copy)]
@@ -20,6 +17,7 @@ pub struct Place {
 }
 
 // Does all actions, and answers their number.
+#[tactic(auto, using(crate::proofs::Lists::flush_none, crate::proofs::Lists::perform_none, crate::proofs::Lists::count_most, crate::proofs::Lists::count_more, crate::proofs::Lists::flushed_more, crate::proofs::Lists::block_count))]
 pub(crate) fn flush_marked(part: &mut [u8], memory: &[u8], marks: [u8; 64]) -> u32
     ensures { (result ≡ length (flush_actions marks))
         × (part.new ≡ perform_all memory.now (flush_actions marks) part.old) }
@@ -32,6 +30,7 @@ pub(crate) fn flush_marked(part: &mut [u8], memory: &[u8], marks: [u8; 64]) -> u
 }
 
 // Does the action after the first so many, and answers whether there was one.
+#[tactic(auto, using(crate::proofs::Lists::none_left))]
 pub(crate) fn step_marked(part: &mut [u8], memory: &[u8], marks: [u8; 64], done: u64) -> bool
     ensures { (result ≡ ltb done (length (flush_actions marks)))
         × (part.new ≡ perform_all memory.now (take 1 (drop done (flush_actions marks))) part.old) }
@@ -44,6 +43,7 @@ pub(crate) fn step_marked(part: &mut [u8], memory: &[u8], marks: [u8; 64], done:
 }
 
 // All actions of a block with a mark, and their number.
+#[tactic(auto, using(crate::proofs::Lists::block_count, crate::proofs::Lists::block_is))]
 fn flush_block(part: &mut [u8], memory: &[u8], block: Blocks, mark: u8) -> u32
     ensures { (result ≡ length (block_actions block.0 mark))
         × (part.new ≡ perform_all memory.now (block_actions block.0 mark) part.old) }
@@ -63,6 +63,7 @@ fn erase_marked(part: &mut [u8], block: Blocks, mark: u8)
 }
 
 // The page actions of a block, if its mark asks for them.
+#[tactic(auto, using(crate::proofs::Lists::perform_none))]
 fn program_marked(part: &mut [u8], memory: &[u8], block: Blocks, mark: u8)
     ensures { part.new ≡ perform_all memory.now (cond (programs mark) (pages_from block.0 0 16) []) part.old }
 {
@@ -72,6 +73,7 @@ fn program_marked(part: &mut [u8], memory: &[u8], block: Blocks, mark: u8)
 }
 
 // The page actions of a block, in rising order.
+#[tactic(auto, using(crate::proofs::Lists::perform_none, crate::proofs::Lists::pages_done))]
 fn program_block(part: &mut [u8], memory: &[u8], block: Blocks)
     ensures { part.new ≡ perform_all memory.now (pages_from block.0 0 16) part.old }
 {
@@ -93,11 +95,12 @@ fn act(part: &mut [u8], memory: &[u8], block: Blocks, nth: u32)
 }
 
 // How many actions a mark asks for.
+#[tactic(auto, using(crate::proofs::Lists::block_sum))]
 fn actions_of(mark: u8) -> u32
     ensures { result ≡ length (block_actions 0 mark) }
 {
     let erase = u32::from(mark_erases(mark));
-    let pages: u32 = if mark_programs(mark) { PAGES } else { 0 };
+    let pages = if mark_programs(mark) { PAGES } else { 0 };
     erase + pages
 }
 
@@ -109,6 +112,7 @@ fn first_action(mark: u8) -> u32
 }
 
 // The place of the action after the first so many; none past the end.
+#[tactic(auto, using(crate::proofs::Lists::flush_none, crate::proofs::Lists::nth_of_lem, crate::proofs::Lists::count_more, crate::proofs::Lists::block_count))]
 fn locate(marks: [u8; 64], done: u64) -> Option<Place>
     ensures { Located (flush_actions marks) done result }
 {

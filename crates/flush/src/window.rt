@@ -29,7 +29,14 @@ pub struct Flush {
     pub failed: Option<u32>,
 }
 
+// What a flush without an action comes to.
+const NOTHING_DONE: Flush = Flush {
+    actions: 0,
+    failed: None,
+};
+
 // Advances the flush by one action, from the number of actions already done, and answers whether one was left. Only the flash changes.
+#[tactic(auto, using(soundness::proofs::Facts::part_within), unfolding(crate::specs::Window::advanced))]
 pub fn advance(
     session: Session,
     flash: &mut [u8],
@@ -46,7 +53,13 @@ pub fn advance(
         return Err(StepError::Suspended);
     }
     let failed = failing_in(session, worn);
-    let acted = step_part(session, first_marks(session.marks, failed), flash, memory, done);
+    let acted = step_part(
+        session,
+        first_marks(session.marks, failed),
+        flash,
+        memory,
+        done,
+    );
     if !acted && failed.is_some() {
         return Err(StepError::Failed);
     }
@@ -54,21 +67,16 @@ pub fn advance(
 }
 
 // Does the actions of a sound session's window, suspended or not, up to the first that fails.
+#[tactic(auto, using(soundness::proofs::Facts::part_within), unfolding(crate::specs::Window::flush_whole))]
 pub fn flush_window(session: Session, flash: &mut [u8], worn: &[u8], memory: &[u8]) -> Flush
     ensures { flush_left session result flash.new ≡ flush_whole (lent session flash.old worn.now memory.now) }
 {
     if !is_sound(session, flash.len(), worn.len(), memory.len()) {
-        return Flush {
-            actions: 0,
-            failed: None,
-        };
+        return NOTHING_DONE;
     }
     // two numbers instead of 64 turns, where nothing is marked: half a microsecond of a create
     if none_marked(session.counts) {
-        return Flush {
-            actions: 0,
-            failed: None,
-        };
+        return NOTHING_DONE;
     }
     let failed = failing_in(session, worn);
     let actions = flush_part(session, first_marks(session.marks, failed), flash, memory);
@@ -86,6 +94,7 @@ fn failing_in(session: Session, worn: &[u8]) -> Option<u32>
 }
 
 // All actions of these marks in a window that lies in the flash.
+#[tactic(auto, using(crate::proofs::InWindow::performed))]
 fn flush_part(session: Session, marks: [u8; 64], flash: &mut [u8], memory: &[u8]) -> u32
     requires { part_end session ≤ length flash.old }
     ensures { (result ≡ length (flush_actions marks))
@@ -97,6 +106,7 @@ fn flush_part(session: Session, marks: [u8; 64], flash: &mut [u8], memory: &[u8]
 }
 
 // One action of these marks in a window that lies in the flash.
+#[tactic(auto, using(crate::proofs::InWindow::performed))]
 fn step_part(session: Session, marks: [u8; 64], flash: &mut [u8], memory: &[u8], done: u64) -> bool
     requires { part_end session ≤ length flash.old }
     ensures { (result ≡ ltb done (length (flush_actions marks)))

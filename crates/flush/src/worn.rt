@@ -9,6 +9,7 @@ ghost use Rattle.flush.specs.Window.{left_marks};
 use session::mark_erases;
 
 // The first block whose erase fails, if one does. The map is read at the blocks that are to be erased, and at no others.
+#[tactic(auto, using(crate::proofs::Failing::finished_start, crate::proofs::Failing::finished_none, crate::proofs::Failing::finished_here, crate::proofs::Failing::finished_past))]
 pub(crate) fn failing_block(worn: &[u8], marks: [u8; 64]) -> Option<u32>
     ensures { result ≡ failing_block worn.now marks }
 {
@@ -28,6 +29,7 @@ fn erase_fails(worn: &[u8], block: usize, mark: u8) -> bool
 }
 
 // The marks of the blocks before the one that fails, by which a flush does these blocks alone.
+#[tactic(auto, using(crate::proofs::Failing::cleared_behind))]
 pub(crate) fn first_marks(marks: [u8; 64], failed: Option<u32>) -> [u8; 64]
     requires { finished_by failed ≤ 64 }
     ensures { flush_actions result ≡ flush_actions (take (finished_by failed) marks) }

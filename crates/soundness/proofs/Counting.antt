@@ -7,6 +7,7 @@ use native.Mathlib.Numerals.{add-one}
 use native.Mathlib.Omega.{arith}
 use lib.Dec.{eqb}
 use lib.ListN.{length, get_or, set, take}
+use Rattle.std.proofs.lemmas.List.{length-take}
 use borrow.Author.Tests.{eqb-true, eq-eqb}
 use Rattle.units.proofs.Cases.{both}
 use Rattle.session.specs.declared.Counts.{Counts}
@@ -40,6 +41,9 @@ marks_most kind (m ∷ ms) =
     let rest = marks_most kind ms in
     let few = kind_most kind m in
     omega (arith, rest, few)
+
+pub few_counted : (kind : ℕ) (ms : List ℕ) (i : ℕ) → marks_of kind (take i ms) ≤ length ms
+few_counted kind ms i = omega (arith, marks_most kind (take i ms), length-take i ms)
 
 -- a mark that is there is counted
 pub marks_some : (kind : ℕ) (ms : List ℕ) (i : ℕ) → i < length ms → of_kind kind (get_or ms i 0) ≤ marks_of kind ms

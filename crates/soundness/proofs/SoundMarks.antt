@@ -9,6 +9,8 @@ use native.Mathlib.Omega.{arith}
 use lib.Dec.{leb, ltb, eqb}
 use lib.ListN.{length, get_or, take, replicate}
 use borrow.Author.Tests.{le-leb, lt-leb, leb-true, lt-ltb, le-ltb, ne_eqb}
+use Rattle.std.proofs.Math.Bool.{and_assoc}
+use Rattle.std.proofs.lemmas.Bool.Decides.{nat_tests}
 use Rattle.units.proofs.Cases.{below_or, both}
 use Rattle.session.specs.declared.Window.{Window}
 use Rattle.session.specs.declared.Window.TheVariants.{Closed, Read, Write}
@@ -25,16 +27,8 @@ clean_sound (suc n) (suc k) = clean_sound n k
 abbrev fine_at : ℕ → ℕ → ℕ → Bool
 fine_at n i mark = cond (ltb i n) (leb mark 2) (leb mark 0)
 
-and_assoc : (a b c : Bool) → (a && (b && c)) ≡ ((a && b) && c)
-and_assoc true b c = refl
-and_assoc false b c = refl
-
 next : (i n : ℕ) → ltb i n ≡ ltb (suc i) (suc n)
-next i n =
-    ⊎_elim
-    (λ (h : i < n). lt-ltb i n h ∙ sym (lt-ltb (suc i) (suc n) (omega arith)))
-    (λ (h : n ≤ i). le-ltb i n h ∙ sym (le-ltb (suc i) (suc n) (omega arith)))
-    (below_or i n)
+next i n = grind (arith, nat_tests)
 
 marks_snoc : (n i : ℕ) (ms : List ℕ) → i < length ms → marks_sound n (take (suc i) ms) ≡ (marks_sound n (take i ms) && fine_at n i (get_or ms i 0))
 marks_snoc n i [] h = absurd (omega arith)
@@ -43,23 +37,15 @@ marks_snoc (suc n) zero (m ∷ ms) h = and-true (leb m 2) ∙ ap (λ (t : Bool).
 marks_snoc zero (suc i) (m ∷ ms) h =
     ap (λ (t : Bool). leb m 0 && t) (marks_snoc zero i ms (omega arith))
     ∙ ap (λ (t : Bool). leb m 0 && (marks_sound zero (take i ms) && cond t (leb (get_or ms i 0) 2) (leb (get_or ms i 0) 0))) (le-ltb i 0 (omega arith) ∙ sym (le-ltb (suc i) 0 (omega arith)))
-    ∙ and_assoc (leb m 0) (marks_sound zero (take i ms)) (fine_at zero (suc i) (get_or ms i 0))
+    ∙ sym (and_assoc (leb m 0) (marks_sound zero (take i ms)) (fine_at zero (suc i) (get_or ms i 0)))
 marks_snoc (suc n) (suc i) (m ∷ ms) h =
     ap (λ (t : Bool). leb m 2 && t) (marks_snoc n i ms (omega arith))
     ∙ ap (λ (t : Bool). leb m 2 && (marks_sound n (take i ms) && cond t (leb (get_or ms i 0) 2) (leb (get_or ms i 0) 0))) (next i n)
-    ∙ and_assoc (leb m 2) (marks_sound n (take i ms)) (fine_at (suc n) (suc i) (get_or ms i 0))
+    ∙ sym (and_assoc (leb m 2) (marks_sound n (take i ms)) (fine_at (suc n) (suc i) (get_or ms i 0)))
 
 -- the largest mark and the end of the last marked block tell it
 larger_most : (a b most : ℕ) → leb (max a b) most ≡ (leb a most && leb b most)
-larger_most a b most =
-    ⊎_elim
-    (λ (h : most < a). lt-leb (max a b) most (omega arith) ∙ sym (rw (lt-leb a most h)))
-    (λ (h : a ≤ most).
-    ⊎_elim
-    (λ (k : most < b). lt-leb (max a b) most (omega arith) ∙ sym (rw (le-leb a most h, lt-leb b most k)))
-    (λ (k : b ≤ most). le-leb (max a b) most (omega arith) ∙ sym (rw (le-leb a most h, le-leb b most k)))
-    (below_or most b))
-    (below_or most a)
+larger_most a b most = grind (arith, nat_tests)
 
 -- a mark and its end
 fine_by_end : (n i mark : ℕ) → fine_at n i mark ≡ (leb mark 2 && leb (cond (eqb mark 0) 0 (i + 1)) n)

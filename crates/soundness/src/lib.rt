@@ -7,15 +7,18 @@
 mod marks;
 mod pending_work;
 
-ghost use Rattle.std.specs.Prelude.{◌≡◌, ◌<◌};
+ghost use Rattle.std.specs.Prelude.{◌≡◌, ◌<◌, ◌&&◌};
 ghost use Rattle.session.specs.Machine.{set_up};
-ghost use Rattle.soundness.specs.Soundness.{sound, sound_at, size_sound, access_sound, active_sound, window_sound, markable, session_sound};
+ghost use Rattle.soundness.specs.Soundness.{sound, sound_at, size_sound, access_sound, active_sound, window_sound, markable, marks_sound, counts_sound, session_sound};
 
 use marks::look_at;
 pub use marks::{larger, with_marks};
 pub use pending_work::{PendingWork, pending};
 use session::{Board, Session, Window, is_control_lost, same_counts};
 use units::Bytes;
+
+// The last version that there is.
+const LAST_VERSION: u8 = 2;
 
 // The most blocks of a flash and of a window memory, and how far the LPC blocks go.
 const MOST_FLASH: u32 = 65535;
@@ -29,18 +32,12 @@ const LPC_BLOCKS: u64 = 65536;
 pub fn is_sound(session: Session, flash: usize, worn: usize, memory: usize) -> bool
     ensures { result ≡ sound flash worn memory session }
 {
-    if !size_is_sound(MOST_FLASH, flash) {
-        return false;
-    }
-    if !size_is_sound(MOST_MEMORY, memory) {
-        return false;
-    }
     let flash_blocks = Bytes(flash as u64).blocks().0;
-    if worn != flash_blocks as usize {
-        return false;
-    }
     let memory_blocks = Bytes(memory as u64).blocks().0;
-    session_is_sound(session, flash_blocks, memory_blocks)
+    size_is_sound(MOST_FLASH, flash)
+        && size_is_sound(MOST_MEMORY, memory)
+        && worn == flash_blocks as usize
+        && session_is_sound(session, flash_blocks, memory_blocks)
 }
 
 // The same, with B: the window memory ends within the LPC blocks.
@@ -48,11 +45,9 @@ pub fn is_sound(session: Session, flash: usize, worn: usize, memory: usize) -> b
 pub fn is_sound_at(session: Session, board: Board, flash: usize, worn: usize, memory: usize) -> bool
     ensures { result ≡ sound_at (set_up board) flash worn memory session }
 {
-    if !is_sound(session, flash, worn, memory) {
-        return false;
-    }
     let memory_blocks = Bytes(memory as u64).blocks().0;
-    (board.lpc as u64) + (memory_blocks as u64) <= LPC_BLOCKS
+    is_sound(session, flash, worn, memory)
+        && u64::from(board.lpc) + u64::from(memory_blocks) <= LPC_BLOCKS
 }
 
 // Whole blocks, at least one and at most so many.
@@ -62,68 +57,47 @@ fn size_is_sound(most: u32, length: usize) -> bool
     ensures { result ≡ size_sound most length }
 {
     let blocks = Bytes(length as u64).blocks();
-    if blocks.0 == 0 {
-        return false;
-    }
-    if most < blocks.0 {
-        return false;
-    }
-    blocks.bytes().0 == length as u64
+    0 < blocks.0 && blocks.0 <= most && blocks.bytes().0 == length as u64
 }
 
 #[tactic(auto, unfolding(crate::specs::Soundness::session_sound))]
 fn session_is_sound(session: Session, flash: u32, memory: u32) -> bool
     ensures { result ≡ session_sound flash memory session }
 {
-    if 2 < session.version {
-        return false;
-    }
-    if !access_is_sound(session.suspended, session.events) {
-        return false;
-    }
-    let window = session.window;
-    if !window_is_sound(window, session.first, session.size, flash, memory) {
-        return false;
-    }
-    let marks = session.marks;
-    let look = look_at(marks, markable_blocks(window, session.size));
-    if !look.within {
-        return false;
-    }
-    same_counts(session.counts, look.counts)
+    session.version <= LAST_VERSION
+        && access_is_sound(session.suspended, session.events)
+        && window_is_sound(session.window, session.first, session.size, flash, memory)
+        && marks_are_sound(session)
 }
 
 // The event byte tells a suspension exactly while there is one.
 fn access_is_sound(suspended: bool, events: u8) -> bool
     ensures { result ≡ access_sound suspended events }
 {
-    if suspended {
-        is_control_lost(events)
-    } else {
-        !is_control_lost(events)
-    }
+    suspended == is_control_lost(events)
 }
 
 fn window_is_sound(window: Window, first: u16, size: u16, flash: u32, memory: u32) -> bool
     ensures { result ≡ window_sound window first size flash memory }
 {
     match window {
-        Window::Closed => { if first == 0 { size == 0 } else { false } }
-        Window::Read => active_is_sound(first, size, flash, memory),
-        Window::Write => active_is_sound(first, size, flash, memory),
+        Window::Closed => first == 0 && size == 0,
+        Window::Read | Window::Write => active_is_sound(first, size, flash, memory),
     }
 }
 
 fn active_is_sound(first: u16, size: u16, flash: u32, memory: u32) -> bool
     ensures { result ≡ active_sound first size flash memory }
 {
-    if size == 0 {
-        return false;
-    }
-    if memory < size as u32 {
-        return false;
-    }
-    (first as u32) + (size as u32) <= flash
+    0 < size && u32::from(size) <= memory && u32::from(first) + u32::from(size) <= flash
+}
+
+// The marks are those of the window, and the kept numbers theirs.
+fn marks_are_sound(session: Session) -> bool
+    ensures { result ≡ (marks_sound (markable session.window session.size) session.marks && counts_sound session) }
+{
+    let look = look_at(session.marks, markable_blocks(session.window, session.size));
+    look.within && same_counts(session.counts, look.counts)
 }
 
 // How many blocks of the window may be marked.
@@ -131,8 +105,7 @@ fn markable_blocks(window: Window, size: u16) -> u16
     ensures { result ≡ markable window size }
 {
     match window {
-        Window::Closed => 0,
-        Window::Read => 0,
+        Window::Closed | Window::Read => 0,
         Window::Write => size,
     }
 }

@@ -22,20 +22,18 @@ pub struct Look {
 // All marks are looked at, whatever the first ones are: a loop without a way out, with a count as narrow as
 // a mark beside the place, compiles to a few vector instructions. So it keeps the largest mark and where the
 // last marked block ends, and compares them when it is over.
+#[tactic(auto, using(crate::proofs::SoundMarks::looked_more, crate::proofs::Counting::counts_more, crate::proofs::Counting::few_counted))]
 pub(crate) fn look_at(marks: [u8; 64], markable: u16) -> Look
     ensures { (result.within ≡ marks_sound markable marks) × (result.counts ≡ counts_of marks) }
 {
     let mut largest: u8 = 0;
     let mut end: u8 = 0;
     let mut counts = ZERO_COUNTS;
-    let mut n: u8 = 0;
-    let mut i = 0;
-    while i < 64 {
-        n += 1;
-        largest = larger(largest, marks[i]);
-        end = larger(end, end_if_marked(marks[i], n));
-        counts = count(counts, marks[i]);
-        i += 1;
+    for block in 0..64u8 {
+        let mark = marks[block as usize];
+        largest = larger(largest, mark);
+        end = larger(end, end_if_marked(mark, block + 1));
+        counts = count(counts, mark);
     }
     Look {
         within: is_within(largest, end, markable),
@@ -54,17 +52,14 @@ pub fn with_marks(session: Session, marks: [u8; 64]) -> Session
 fn is_within(largest: u8, end: u8, markable: u16) -> bool
     ensures { result ≡ (leb largest 2 && leb end markable) }
 {
-    if LAST_MARK < largest {
-        return false;
-    }
-    (end as u16) <= markable
+    largest <= LAST_MARK && u16::from(end) <= markable
 }
 
-// The larger of two.
+// The larger of two, under the name that docs/STATEMENTS.md gives it.
 pub fn larger(a: u8, b: u8) -> u8
     ensures { result ≡ max a b }
 {
-    if a < b { b } else { a }
+    a.max(b)
 }
 
 // Where a block ends, if it is marked.

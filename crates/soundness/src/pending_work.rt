@@ -19,13 +19,12 @@ pub struct PendingWork {
 pub fn pending(session: Session) -> Option<PendingWork>
     ensures { result ≡ pending_in session }
 {
-    let marks = session.marks;
     let counts = session.counts;
-    if !same_counts(counts, look_at(marks, EVERY_BLOCK).counts) {
+    if !same_counts(counts, look_at(session.marks, EVERY_BLOCK).counts) {
         return None;
     }
-    let dirty = counts.dirty as u32;
-    let erased = counts.erased as u32;
+    let dirty = u32::from(counts.dirty);
+    let erased = u32::from(counts.erased);
     Some(PendingWork {
         blocks: dirty + erased,
         actions: DIRTY_ACTIONS * dirty + erased,
