@@ -23,13 +23,6 @@ filled_up (suc n) k (x ∷ xs) l h =
     ap (λ (t : List ℕ). x ∷ t)
     (filled_up n k xs (le_of_suc-le-suc l) (le_of_lt h) ∙ ap (λ (i : ℕ). xs ++ replicate i 0) (sym (suc-sub-suc n (length xs))))
 
--- the first n of a list, written over zeros
-pub written_over : (n k : ℕ) (xs : List ℕ) → take n xs ++ drop (length (take n xs)) (replicate n 0 ++ replicate k 0) ≡ elements n 0 xs ++ replicate k 0
-written_over zero k xs = refl
-written_over (suc n) k [] = ap (λ (t : List ℕ). t ++ replicate k 0) (sym (none (suc n) 0))
-written_over (suc n) k (x ∷ xs) =
-    ap (λ (t : List ℕ). x ∷ t) (written_over n k xs ∙ ap (λ (t : List ℕ). t ++ replicate k 0) (sym (elements_tail n 0 x xs)))
-
 -- those of a list without its first k
 pub behind : (n k : ℕ) (xs : List ℕ) → elements n 0 (drop k xs) ≡ elements n k xs
 behind n zero xs = refl

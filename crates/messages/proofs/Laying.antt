@@ -1,27 +1,23 @@
 -- A message's registers and a response as the code lays them out.
-use Rattle.std.proofs.Common.{◌≡◌, ℕ, suc, ◌+◌, ◌-◌, ◌*◌, ◌≤◌, min, List, [], ◌∷◌, ◌++◌, length, get_or, take, drop, set, replicate, sym, ap, ◌∙◌, le_refl, append-nil, length-drop, eq-eqb, ne_eqb, arith}
-use Rattle.std.proofs.lemmas.List.{take_min}
+use Rattle.std.proofs.Common.{◌≡◌, ℕ, suc, ◌+◌, ◌*◌, ◌<◌, cond, ltb, eqb, ◌&&◌, false, List, [], ◌∷◌, ◌++◌, length, get_or, drop, set, sym, ap, ◌∙◌, le_refl, append-nil, eq-eqb, ne_eqb, arith}
+use Rattle.std.proofs.lemmas.List.FromFn.{fill_by_all}
 use borrow.Rule.Slice.PartMut.{put_mid}
 use Rattle.registers.specs.Registers.{command_of, sequence_of, padded}
 use Rattle.messages.specs.declared.Response.{Response}
 use Rattle.messages.specs.Lengths.{told}
 use Rattle.messages.specs.Messages.{network_function_of, lun_of, ipmi_command_of, hiomap_command_of, number_of, parameters_of, made_odd, headed, values_of, status_of, completion_of, response_of, laid}
 use Rattle.messages.specs.Parameters.{row_of}
-use Rattle.messages.proofs.Cells.{filled, written_over, behind}
-use Rattle.messages.proofs.Rows.{packed_long}
+use Rattle.messages.proofs.Cells.{filled, behind}
+use Rattle.messages.proofs.Rows.{packed_as, packed_long}
 
--- ---- registers: the message's bytes from the third on, as many as there are, written over zeros
-pub copied : (message given : List ℕ) (end : ℕ) → 4 ≤ length message → end ≡ min (length message) 15 → given ≡ take (end - 2) (drop 2 message)
-    → given ++ drop (length (take (end - 2) (drop 2 message))) (replicate 16 0)
-    ≡ hiomap_command_of message ∷ number_of message ∷ (padded (parameters_of message) ++ (0 ∷ 0 ∷ 0 ∷ []))
-copied message given end l e g =
-    let short : end - 2 ≡ min 13 (length (drop 2 message)) = omega (arith, length-drop 2 message) in
-    let cut = ap (λ (n : ℕ). take n (drop 2 message)) short ∙ take_min 13 (drop 2 message) in
-    rw (g, cut)
-    (written_over 13 3 (drop 2 message)
-    ∙ ap (λ (t : List ℕ). t ++ (0 ∷ 0 ∷ 0 ∷ [])) (behind 13 2 message)
+-- ---- registers: the 13 bytes of a message behind its second, 0 past its end, and three zeros
+pub copied : (message registers : List ℕ) → length registers ≡ 16
+    → ((k : ℕ) → k < 16 → get_or registers k 0 ≡ cond (ltb k 13) (get_or message (k + 2) 0) 0)
+    → registers ≡ hiomap_command_of message ∷ number_of message ∷ (padded (parameters_of message) ++ (0 ∷ 0 ∷ 0 ∷ []))
+copied message registers l h =
+    fill_by_all (λ (k : ℕ). cond (ltb k 13) (get_or message (k + 2) 0) 0) registers 16 0 l h
     ∙ ap (λ (t : List ℕ). get_or message 2 0 ∷ get_or message 3 0 ∷ (t ++ (0 ∷ 0 ∷ 0 ∷ [])))
-    (sym (filled 11 11 (drop 4 message) (le_refl 11) ∙ behind 11 4 message)))
+    (sym (filled 11 11 (drop 4 message) (le_refl 11) ∙ behind 11 4 message))
 
 -- ---- a response: with a completion code alone
 pub laid_refused : (version : ℕ) (message registers : List ℕ) → (status_of registers ≡ 1 → ⊥)
@@ -46,3 +42,11 @@ laid_served version n message registers head vs s l h e t =
       bytes = (made_odd (network_function_of message) * 4 + lun_of message) ∷ ipmi_command_of message ∷ 0 ∷ command_of registers ∷ sequence_of registers ∷ cells i;
       length = long i;
     })
+
+-- the bytes of its parameters: but for GET_INFO at version 2 those of the registers behind the second, as many as there are
+pub fronted : (code version count : ℕ) (registers values : List ℕ) → (eqb code 2 && eqb version 2) ≡ false → length registers ≡ 16
+    → count ≡ told (row_of code version) → length values ≡ 11
+    → ((k : ℕ) → k < 11 → get_or values k 0 ≡ cond (ltb k count) (get_or registers (2 + k) 0) 0)
+    → values ≡ padded (values_of (row_of code version) registers)
+fronted code version count registers values i l e v h =
+    fill_by_all (λ (k : ℕ). cond (ltb k count) (get_or registers (2 + k) 0) 0) values 11 0 v h ∙ sym (packed_as code version count registers i l e)

@@ -38,9 +38,6 @@ taken_passes pair version message =
     each_taken (λ (t : Result Unit Refusal). t ≡ Ok tt → Passes pair version message) pair version message
     (λ _ e. cc) (λ _ _ e. cc) (λ _ _ _ e. cc) (λ p _. p)
 
-pub taken_long : (pair : Pair) (version : ℕ) (message : List ℕ) → taken_as pair version message ≡ Ok tt → 4 ≤ length message
-taken_long pair version message e = (taken_passes pair version message e).long
-
 -- ---- what the code unpacks is what the table says
 pub opened_taken : (pair : Pair) (version : ℕ) (message : List ℕ) → taken_as pair version message ≡ Ok tt
     → Ok (hiomap_command_of message ∷ number_of message ∷ (padded (parameters_of message) ++ (0 ∷ 0 ∷ 0 ∷ []))) ≡ opened pair version message

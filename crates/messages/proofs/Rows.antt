@@ -1,7 +1,8 @@
 -- The table of parameters: what holds of each of its rows holds of the row of any command and version.
-use Rattle.std.proofs.Common.{◌≡◌, ◌+◌, ◌-◌, ℕ, true, false, not, ◌&&◌, List, [], ◌∷◌, ◌++◌, length, get_or, take, drop, replicate, Option, None, Some, refl, sym, subst, true≢false, eqb-true}
+use Rattle.std.proofs.Common.{◌≡◌, ◌+◌, ℕ, true, false, not, ◌&&◌, List, [], ◌∷◌, length, get_or, map, cond, ltb, replicate, Option, None, Some, refl, sym, subst, true≢false, eqb-true}
 use Rattle.std.proofs.Math.Dec.{eqb}
 use Rattle.std.proofs.lemmas.Bool.{not-false, and_parts, cond_both}
+use Rattle.std.specs.List.{range_with_len}
 use Rattle.registers.specs.Registers.{padded}
 use Rattle.registers.proofs.Fields.{elements, elements_of}
 use Rattle.messages.specs.Lengths.{told}
@@ -68,20 +69,22 @@ unpacked_as =
 
 -- ---- a response
 
+-- the 11 registers behind the second, as far as the response has parameters
+abbrev pub front : ℕ → List ℕ → List ℕ
+front count registers = map (λ (k : ℕ). cond (ltb k count) (get_or registers (2 + k) 0) 0) (range_with_len 0 11)
+
 -- but for GET_INFO at version 2 its parameters' two offsets are the same
-pub packed_as : (code version n : ℕ) (registers values : List ℕ) → (eqb code 2 && eqb version 2) ≡ false → length registers ≡ 16
-    → n ≡ told (row_of code version) → values ≡ take (2 + n - 2) (drop 2 registers)
-    → values ++ drop n (replicate 11 0) ≡ padded (values_of (row_of code version) registers)
+pub packed_as : (code version count : ℕ) (registers : List ℕ) → (eqb code 2 && eqb version 2) ≡ false → length registers ≡ 16
+    → count ≡ told (row_of code version) → padded (values_of (row_of code version) registers) ≡ front count registers
 unfolding table
-packed_as code version n registers values i l e v = rw (v, e, ← elements_of 16 registers l) (written code version i)
+packed_as code version count registers i l e = rw (e, ← elements_of 16 registers l) (written code version i)
   where
     written : (code version : ℕ) → (eqb code 2 && eqb version 2) ≡ false
-        → take (2 + told (row_of code version) - 2) (drop 2 (elements 16 0 registers)) ++ drop (told (row_of code version)) (replicate 11 0)
-        ≡ padded (values_of (row_of code version) (elements 16 0 registers))
+        → padded (values_of (row_of code version) (elements 16 0 registers)) ≡ front (told (row_of code version)) (elements 16 0 registers)
     written =
         each_row
         (λ (code : ℕ) (version : ℕ) (o : Option Row). (eqb code 2 && eqb version 2) ≡ false
-        → take (2 + told o - 2) (drop 2 (elements 16 0 registers)) ++ drop (told o) (replicate 11 0) ≡ padded (values_of o (elements 16 0 registers)))
+        → padded (values_of o (elements 16 0 registers)) ≡ front (told o) (elements 16 0 registers))
         ((λ _. refl) & (λ _. refl) & (λ _. refl) & (λ _. refl) & (λ _. refl) & (λ n. absurd (true≢false n)) & (λ _. refl) & (λ _. refl) & (λ _. refl)
         & (λ _. refl) & (λ _. refl) & (λ _. refl) & (λ _. refl) & (λ _. refl) & (λ _. refl) & (λ _. refl) & (λ _. refl) & (λ _. refl) & (λ _. refl)
         & (λ _. refl) & (λ _. refl) & (λ _. refl) & tt)

@@ -1,7 +1,7 @@
 // The numbers of bytes that the table of parameters has for each command and version.
 #![tactic(auto, unfolding(crate::specs::Parameters::row_of, crate::specs::Parameters::table))]
 
-ghost use Rattle.std.specs.Prelude.{◌≡◌, ◌≤◌};
+ghost use Rattle.std.specs.Prelude.{◌≡◌};
 ghost use Rattle.messages.specs.Parameters.{row_of};
 ghost use Rattle.messages.specs.Lengths.{asked, told};
 
@@ -31,8 +31,7 @@ pub(crate) fn request_bytes(code: u8, version: u8) -> Option<u8>
 
 // The bytes of a response's parameters.
 pub(crate) fn response_bytes(code: u8, version: u8) -> u8
-    ensures bytes { result ≡ told (row_of code version) }
-    ensures few { result ≤ 8 }
+    ensures { result ≡ told (row_of code version) }
 {
     match (code, version) {
         (2, 1) => 5,

@@ -1,10 +1,11 @@
 // The response to a message: a refusal of its own, or the answer of the mediator.
-ghost use Rattle.std.specs.Prelude.{◌≡◌, ◌&&◌, ◌+◌, ◌*◌, ◌/◌, ◌%◌, eqb, get_or};
+ghost use Rattle.std.specs.Prelude.{◌≡◌, ◌&&◌, ◌+◌, ◌*◌, ◌/◌, ◌%◌, eqb};
 ghost use Rattle.registers.specs.Registers.{padded};
 ghost use Rattle.messages.specs.Parameters.{row_of};
 ghost use Rattle.messages.specs.Messages.{made_odd, headed, refusal, values_of, response_of, laid};
 
 use crate::lengths::response_bytes;
+use crate::taking::byte_at;
 use crate::{Refusal, Response};
 
 // The empty response, or three bytes with C1 or C7.
@@ -71,16 +72,20 @@ pub fn pack(message: &[u8], version: u8, registers: [u8; 16]) -> Response
 }
 
 // The bytes of the response's parameters, zero behind them.
-#[tactic(auto, using(crate::proofs::Rows::packed_as, crate::proofs::Rows::info_packed))]
+#[tactic(auto, using(crate::proofs::Laying::fronted, crate::proofs::Rows::info_packed))]
 fn values_of(code: u8, version: u8, registers: [u8; 16]) -> [u8; 11]
     ensures { result ≡ padded (values_of (row_of code version) registers) }
 {
     let mut values = [0; 11];
     if is_info_of_2(code, version) {
         values[..4].copy_from_slice(&[registers[2], registers[7], registers[8], registers[9]]);
-    } else {
-        let count = response_bytes(code, version) as usize;
-        values[..count].copy_from_slice(&registers[2..2 + count]);
+        return values;
+    }
+    let count = response_bytes(code, version) as usize;
+    for place in 0..11 {
+        if place < count {
+            values[place] = registers[2 + place];
+        }
     }
     values
 }
@@ -90,11 +95,4 @@ fn is_info_of_2(code: u8, version: u8) -> bool
     ensures { result ≡ (eqb code 2 && eqb version 2) }
 {
     code == 2 && version == 2
-}
-
-// A byte of a message, 0 past its end.
-fn byte_at(message: &[u8], place: usize) -> u8
-    ensures { result ≡ get_or message.now place 0 }
-{
-    message.get(place).copied().unwrap_or(0)
 }

@@ -1,5 +1,5 @@
 // Whether a message is taken, and the registers that it is unpacked to.
-ghost use Rattle.std.specs.Prelude.{◌≡◌, ◌&&◌, [], ◌∷◌, ◌++◌, ◌/◌, ◌≤◌, eqb, length};
+ghost use Rattle.std.specs.Prelude.{◌≡◌, ◌&&◌, [], ◌∷◌, ◌++◌, ◌/◌, eqb, get_or};
 ghost use Rattle.registers.specs.Registers.{padded};
 ghost use Rattle.messages.specs.Parameters.{row_of};
 ghost use Rattle.messages.specs.Messages.{hiomap_command_of, number_of, parameters_of, wrong_length, malformed, taken_as, opened};
@@ -8,7 +8,7 @@ use crate::lengths::request_bytes;
 use crate::{Pair, Refusal};
 
 // Takes a message or refuses it, by the board's pair and the agreed version, and unpacks it.
-#[tactic(auto, using(crate::proofs::Passing::taken_long, crate::proofs::Passing::opened_taken))]
+#[tactic(auto, using(crate::proofs::Passing::opened_taken))]
 pub fn open_message(pair: Pair, version: u8, message: &[u8]) -> Result<[u8; 16], Refusal>
     ensures { result ≡ opened pair version message.now }
 {
@@ -57,12 +57,19 @@ fn is_wrong_length(code: u8, version: u8, count: usize) -> bool
 // The registers of a message, byte by byte: no request has a parameter whose two offsets differ.
 #[tactic(auto, using(crate::proofs::Laying::copied))]
 fn unpack(message: &[u8]) -> [u8; 16]
-    requires { 4 ≤ length message.now }
     ensures { result ≡ hiomap_command_of message.now ∷ number_of message.now
         ∷ (padded (parameters_of message.now) ++ (0 ∷ 0 ∷ 0 ∷ [])) }
 {
     let mut registers = [0; 16];
-    let given = &message[2..message.len().min(15)];
-    registers[..given.len()].copy_from_slice(given);
+    for place in 0..13 {
+        registers[place] = byte_at(message, place + 2);
+    }
     registers
+}
+
+// A byte of a message, 0 past its end.
+pub(crate) fn byte_at(message: &[u8], place: usize) -> u8
+    ensures { result ≡ get_or message.now place 0 }
+{
+    message.get(place).copied().unwrap_or(0)
 }
