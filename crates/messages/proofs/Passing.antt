@@ -1,10 +1,8 @@
 -- What a message tells that is taken, and its registers.
-use Rattle.std.proofs.Common.{◌≡◌, sym, subst, ◌∙◌, ◌-◌, ◌≤◌, ℕ, Bool, true, false, not, ◌||◌, List, [], ◌∷◌, ◌++◌, length, drop, Result, Ok, Err, refl, ap}
+use Rattle.std.proofs.Common.{◌≡◌, sym, subst, ◌∙◌, ◌-◌, ◌≤◌, ℕ, true, false, not, List, [], ◌∷◌, ◌++◌, length, drop, Result, Ok, Err, ap}
 use Rattle.std.proofs.Math.Dec.{ltb}
 use Rattle.std.proofs.Math.ListN.{length-drop}
-use borrow.Author.Tests.{ltb-false, not-true, not-false}
-use Rattle.std.proofs.lemmas.Bool.{false≢true}
-use Rattle.units.proofs.Cases.{chosen}
+use Rattle.std.proofs.lemmas.Bool.{ltb-false, not-true, not-false, or_parts, cond_both}
 use Rattle.registers.specs.Registers.{padded}
 use Rattle.messages.specs.declared.Pair.{Pair}
 use Rattle.messages.specs.declared.Refusal.{Refusal}
@@ -19,11 +17,6 @@ pub record Passes (pair : Pair) (version : ℕ) (message : List ℕ) : Type 0 wh
   pub own : is_own pair message ≡ true
   pub right : wrong_length (row_of (hiomap_command_of message) version) (length message - 4) ≡ false
 
--- both sides of a choice that fails
-neither : (a b : Bool) → (a || b) ≡ false → (a ≡ false) × (b ≡ false)
-neither true b e = absurd (false≢true (sym e))
-neither false b e = (refl, e)
-
 -- what holds of each refusal where its check refuses, and of a command where none does, holds of what becomes of a message
 pub each_taken : (P : Result Unit Refusal → Type 0) (pair : Pair) (version : ℕ) (message : List ℕ) → (ltb (length message) 2 ≡ true → P (Err Short))
     → (ltb (length message) 2 ≡ false → is_own pair message ≡ false → P (Err Foreign))
@@ -32,12 +25,12 @@ pub each_taken : (P : Result Unit Refusal → Type 0) (pair : Pair) (version : �
     → (Passes pair version message → P (Ok tt)) → P (taken_as pair version message)
 unfolding taken_as
 each_taken P pair version message short foreign wrong command =
-    chosen P (ltb (length message) 2) (Err Short) _ short λ some.
-    chosen P (not (is_own pair message)) (Err Foreign) _ (λ e. foreign some (not-true (is_own pair message) e)) λ ours.
-    chosen P (malformed version message) (Err Malformed) (Ok tt)
+    cond_both (ltb (length message) 2) (Err Short) _ P short λ some.
+    cond_both (not (is_own pair message)) (Err Foreign) _ P (λ e. foreign some (not-true (is_own pair message) e)) λ ours.
+    cond_both (malformed version message) (Err Malformed) (Ok tt) P
     (wrong some (not-false (is_own pair message) ours))
     (λ e.
-    let n = neither (ltb (length message) 4) (wrong_length (row_of (hiomap_command_of message) version) (length message - 4)) e in
+    let n = or_parts (ltb (length message) 4) (wrong_length (row_of (hiomap_command_of message) version) (length message - 4)) e in
     command record { long = ltb-false (length message) 4 n.0; own = not-false (is_own pair message) ours; right = n.1 })
 
 pub taken_passes : (pair : Pair) (version : ℕ) (message : List ℕ) → taken_as pair version message ≡ Ok tt → Passes pair version message

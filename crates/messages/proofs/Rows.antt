@@ -1,17 +1,12 @@
 -- The table of parameters: what holds of each of its rows holds of the row of any command and version.
-use mathlib.Core.Path.{◌≡◌, refl, sym, subst, ◌∙◌}
-use mathlib.Core.Bool.{false, cond, not, ◌&&◌, false≢true}
-use mathlib.Core.List.{List, [], ◌∷◌}
-use Rattle.std.specs.Prelude.{Option, None, Some}
-use Prim.Native.Nat.{ℕ}
-use lib.Dec.{eqb, ltb}
-use lib.ListN.{length, get_or, replicate}
-use borrow.Author.Tests.{eqb-true, eq-eqb, not-false}
-use Rattle.units.proofs.Cases.{chosen, both}
+use Rattle.std.proofs.Common.{◌≡◌, ◌+◌, ℕ, true, false, not, ◌&&◌, List, [], ◌∷◌, length, get_or, map, cond, ltb, replicate, Option, None, Some, refl, sym, subst, true≢false, eqb-true}
+use Rattle.std.proofs.Math.Dec.{eqb}
+use Rattle.std.proofs.lemmas.Bool.{not-false, and_parts, cond_both}
+use Rattle.std.specs.List.{range_with_len}
 use Rattle.registers.specs.Registers.{padded}
 use Rattle.registers.proofs.Fields.{elements, elements_of}
 use Rattle.messages.specs.Lengths.{told}
-use Rattle.messages.specs.Messages.{wrong_length, unpacked, arguments_of, packed_from, values_of}
+use Rattle.messages.specs.Messages.{wrong_length, unpacked, arguments_of, values_of}
 use Rattle.messages.specs.Parameters.{Parameter, y, q, u, Row, table, row_in, row_of, bytes_in}
 
 abbrev pub Every : (ℕ → ℕ → Option Row → Type 0) → List Row → Type 0
@@ -27,9 +22,9 @@ each_in : (P : ℕ → ℕ → Option Row → Type 0) (rows : List Row) → Ever
     → (code version : ℕ) → P code version (row_in rows code version)
 each_in P [] e n code version = n code version
 each_in P (r ∷ rows) e n code version =
-    chosen (P code version) (eqb version r.version && eqb code r.code) (Some r) (row_in rows code version)
+    cond_both (eqb version r.version && eqb code r.code) (Some r) (row_in rows code version) (P code version)
     (λ t.
-    let h = both (eqb version r.version) (eqb code r.code) t in
+    let h = and_parts (eqb version r.version) (eqb code r.code) t in
     subst (λ (k : ℕ). P k version (Some r)) (sym (eqb-true code r.code h.1))
     (subst (λ (k : ℕ). P r.code k (Some r)) (sym (eqb-true version r.version h.0)) e.0))
     (λ _. each_in P rows e.1 n code version)
@@ -38,20 +33,6 @@ pub each_row : (P : ℕ → ℕ → Option Row → Type 0) → Every P table →
     → (code version : ℕ) → P code version (row_of code version)
 unfolding row_of
 each_row P e n code version = each_in P table e n code version
-
--- ---- lengths
-
--- nor has one at another version than 1 and 2
-pub told_elsewhere : (code version : ℕ) → (version ≡ 1 → ⊥) → (version ≡ 2 → ⊥) → told (row_of code version) ≡ 0
-unfolding table
-told_elsewhere =
-    each_row (λ (code : ℕ) (version : ℕ) (o : Option Row). (version ≡ 1 → ⊥) → (version ≡ 2 → ⊥) → told o ≡ 0)
-    ((λ n1 n2. refl) & (λ n1 n2. absurd (n1 refl)) & (λ n1 n2. absurd (n2 refl)) & (λ n1 n2. refl) & (λ n1 n2. absurd (n1 refl))
-    & (λ n1 n2. absurd (n2 refl)) & (λ n1 n2. absurd (n1 refl)) & (λ n1 n2. absurd (n2 refl)) & (λ n1 n2. absurd (n1 refl))
-    & (λ n1 n2. absurd (n2 refl)) & (λ n1 n2. absurd (n1 refl)) & (λ n1 n2. absurd (n2 refl)) & (λ n1 n2. absurd (n1 refl))
-    & (λ n1 n2. absurd (n2 refl)) & (λ n1 n2. absurd (n1 refl)) & (λ n1 n2. absurd (n2 refl)) & (λ n1 n2. absurd (n1 refl))
-    & (λ n1 n2. absurd (n2 refl)) & (λ n1 n2. refl) & (λ n1 n2. absurd (n1 refl)) & (λ n1 n2. absurd (n2 refl)) & (λ n1 n2. absurd (n2 refl)) & tt)
-    (λ _ _ n1 n2. refl)
 
 -- ---- a request: its parameters' two offsets are the same, so that it is unpacked byte by byte
 
@@ -88,56 +69,41 @@ unpacked_as =
 
 -- ---- a response
 
--- a byte where there are so many, else 0
-abbrev pub up_to : ℕ → ℕ → ℕ → ℕ
-up_to count place byte = cond (ltb place count) byte 0
-
--- the arguments, as far as the response has parameters
+-- the 11 registers behind the second, as far as the response has parameters
 abbrev pub front : ℕ → List ℕ → List ℕ
-front count registers =
-    up_to count 0 (get_or registers 2 0) ∷ up_to count 1 (get_or registers 3 0) ∷ up_to count 2 (get_or registers 4 0) ∷ up_to count 3 (get_or registers 5 0)
-    ∷ up_to count 4 (get_or registers 6 0) ∷ up_to count 5 (get_or registers 7 0) ∷ up_to count 6 (get_or registers 8 0) ∷ up_to count 7 (get_or registers 9 0)
-    ∷ up_to count 8 (get_or registers 10 0) ∷ up_to count 9 (get_or registers 11 0) ∷ up_to count 10 (get_or registers 12 0) ∷ []
-
-pub not_info : (code version : ℕ) → (eqb code 2 && eqb version 2) ≡ false → code ≡ 2 → version ≡ 2 → ⊥
-not_info code version e c v = false≢true (sym e ∙ rw (eq-eqb code 2 c, eq-eqb version 2 v))
+front count registers = map (λ (k : ℕ). cond (ltb k count) (get_or registers (2 + k) 0) 0) (range_with_len 0 11)
 
 -- but for GET_INFO at version 2 its parameters' two offsets are the same
-pub packed_as : (code version : ℕ) → (code ≡ 2 → version ≡ 2 → ⊥) → (registers : List ℕ) → length registers ≡ 16
-    → padded (values_of (row_of code version) registers) ≡ front (told (row_of code version)) registers
+pub packed_as : (code version count : ℕ) (registers : List ℕ) → (eqb code 2 && eqb version 2) ≡ false → length registers ≡ 16
+    → count ≡ told (row_of code version) → padded (values_of (row_of code version) registers) ≡ front count registers
 unfolding table
-packed_as code version n registers l =
-    subst (λ (t : List ℕ). padded (values_of (row_of code version) t) ≡ front (told (row_of code version)) t) (elements_of 16 registers l)
-    (written code version n)
+packed_as code version count registers i l e = rw (e, ← elements_of 16 registers l) (written code version i)
   where
-    written : (code version : ℕ) → (code ≡ 2 → version ≡ 2 → ⊥)
+    written : (code version : ℕ) → (eqb code 2 && eqb version 2) ≡ false
         → padded (values_of (row_of code version) (elements 16 0 registers)) ≡ front (told (row_of code version)) (elements 16 0 registers)
     written =
         each_row
-        (λ (code : ℕ) (version : ℕ) (o : Option Row). (code ≡ 2 → version ≡ 2 → ⊥)
+        (λ (code : ℕ) (version : ℕ) (o : Option Row). (eqb code 2 && eqb version 2) ≡ false
         → padded (values_of o (elements 16 0 registers)) ≡ front (told o) (elements 16 0 registers))
-        ((λ _. refl) & (λ _. refl) & (λ _. refl) & (λ _. refl) & (λ _. refl) & (λ n. absurd (n refl refl)) & (λ _. refl) & (λ _. refl) & (λ _. refl)
+        ((λ _. refl) & (λ _. refl) & (λ _. refl) & (λ _. refl) & (λ _. refl) & (λ n. absurd (true≢false n)) & (λ _. refl) & (λ _. refl) & (λ _. refl)
         & (λ _. refl) & (λ _. refl) & (λ _. refl) & (λ _. refl) & (λ _. refl) & (λ _. refl) & (λ _. refl) & (λ _. refl) & (λ _. refl) & (λ _. refl)
         & (λ _. refl) & (λ _. refl) & (λ _. refl) & tt)
         (λ _ _ _. refl)
 
 -- and GET_INFO's are those of 000: M 0, 5, 6 and 7
-pub info_packed : (registers : List ℕ) → length registers ≡ 16
-    → padded (values_of (row_of 2 2) registers)
-    ≡ get_or registers 2 0 ∷ get_or registers 7 0 ∷ get_or registers 8 0 ∷ get_or registers 9 0 ∷ 0 ∷ 0 ∷ 0 ∷ 0 ∷ 0 ∷ 0 ∷ 0 ∷ []
+pub info_packed : (code version : ℕ) (registers : List ℕ) → (eqb code 2 && eqb version 2) ≡ true → length registers ≡ 16
+    → get_or registers 2 0 ∷ get_or registers 7 0 ∷ get_or registers 8 0 ∷ get_or registers 9 0 ∷ replicate 7 0
+    ≡ padded (values_of (row_of code version) registers)
 unfolding row_of table
-info_packed registers l =
-    subst
-    (λ (t : List ℕ). padded (packed_from (y 0 0 ∷ y 5 1 ∷ q 6 2 ∷ []) t)
-    ≡ get_or t 2 0 ∷ get_or t 7 0 ∷ get_or t 8 0 ∷ get_or t 9 0 ∷ 0 ∷ 0 ∷ 0 ∷ 0 ∷ 0 ∷ 0 ∷ 0 ∷ [])
-    (elements_of 16 registers l) refl
+info_packed code version registers i l =
+    let is = and_parts (eqb code 2) (eqb version 2) i in
+    rw (eqb-true code 2 is.0, eqb-true version 2 is.1, ← elements_of 16 registers l)
 
 -- each has as many bytes as its parameters
 pub packed_long : (code version : ℕ) (registers : List ℕ) → length registers ≡ 16
     → length (values_of (row_of code version) registers) ≡ told (row_of code version)
 unfolding table
-packed_long code version registers l =
-    subst (λ (t : List ℕ). length (values_of (row_of code version) t) ≡ told (row_of code version)) (elements_of 16 registers l) (written code version)
+packed_long code version registers l = rw (← elements_of 16 registers l) (written code version)
   where
     written : (code version : ℕ) → length (values_of (row_of code version) (elements 16 0 registers)) ≡ told (row_of code version)
     written =

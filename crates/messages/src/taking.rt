@@ -44,55 +44,32 @@ fn is_own(pair: Pair, first: u8, second: u8) -> bool
 fn is_malformed(version: u8, message: &[u8]) -> bool
     ensures { result ≡ malformed version message.now }
 {
-    let count = message.len();
-    if count < 4 {
-        return true;
-    }
-    is_wrong_length(message[2], version, count - 4)
+    message.len() < 4 || is_wrong_length(message[2], version, message.len() - 4)
 }
 
 // A command that the version does not know has no wrong length.
 fn is_wrong_length(code: u8, version: u8, count: usize) -> bool
     ensures { result ≡ wrong_length (row_of code version) count }
 {
-    match request_bytes(code, version) {
-        Some(asked) => count != asked as usize,
-        None => false,
-    }
+    request_bytes(code, version).is_some_and(|asked| count != asked as usize)
 }
 
 // The registers of a message, byte by byte: no request has a parameter whose two offsets differ.
+#[tactic(auto, using(crate::proofs::Laying::copied))]
 fn unpack(message: &[u8]) -> [u8; 16]
     ensures { result ≡ hiomap_command_of message.now ∷ number_of message.now
         ∷ (padded (parameters_of message.now) ++ (0 ∷ 0 ∷ 0 ∷ [])) }
 {
-    [
-        byte_at(message, 2),
-        byte_at(message, 3),
-        byte_at(message, 4),
-        byte_at(message, 5),
-        byte_at(message, 6),
-        byte_at(message, 7),
-        byte_at(message, 8),
-        byte_at(message, 9),
-        byte_at(message, 10),
-        byte_at(message, 11),
-        byte_at(message, 12),
-        byte_at(message, 13),
-        byte_at(message, 14),
-        0,
-        0,
-        0,
-    ]
+    let mut registers = [0; 16];
+    for place in 0..13 {
+        registers[place] = byte_at(message, place + 2);
+    }
+    registers
 }
 
 // A byte of a message, 0 past its end.
 pub(crate) fn byte_at(message: &[u8], place: usize) -> u8
     ensures { result ≡ get_or message.now place 0 }
 {
-    if place < message.len() {
-        message[place]
-    } else {
-        0
-    }
+    message.get(place).copied().unwrap_or(0)
 }

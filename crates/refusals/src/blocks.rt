@@ -23,9 +23,9 @@ pub fn blocks_named(session: Session, registers: [u8; 16]) -> Option<BlockRange>
     let size = Blocks(session.size as u32);
     if session.version < 2 {
         let count = Bytes(read_length(registers) as u64).blocks();
-        flash_blocks(Blocks(session.first as u32), size, named, count)
+        within(Blocks(session.first as u32), size, named, count)
     } else {
-        window_blocks(size, named, Blocks(words.second as u32))
+        within(Blocks(0), size, named, Blocks(words.second as u32))
     }
 }
 
@@ -36,8 +36,8 @@ pub fn flush_outside(session: Session, registers: [u8; 16]) -> bool
     flush_marks(session, registers) && blocks_named(session, registers).is_none()
 }
 
-// Version 1: blocks of the flash.
-fn flash_blocks(first: Blocks, size: Blocks, named: Blocks, count: Blocks) -> Option<BlockRange>
+// Of blocks that are counted from where a window is counted from, those of the window; none where they do not all lie in it.
+fn within(first: Blocks, size: Blocks, named: Blocks, count: Blocks) -> Option<BlockRange>
     requires { (first.0 < 65536) × (size.0 < 65536) × (named.0 < 65536) × (count.0 ≤ 1048576) }
     ensures { result ≡ range_of (record {
       inside = leb first.0 named.0 && leb (named.0 + count.0) (first.0 + size.0);
@@ -50,20 +50,6 @@ fn flash_blocks(first: Blocks, size: Blocks, named: Blocks, count: Blocks) -> Op
     }
     Some(BlockRange {
         start: named.0 - first.0,
-        count: count.0,
-    })
-}
-
-// Version 2: blocks of the window.
-fn window_blocks(size: Blocks, named: Blocks, count: Blocks) -> Option<BlockRange>
-    requires { (named.0 < 65536) × (count.0 < 65536) }
-    ensures { result ≡ range_of (record { inside = leb (named.0 + count.0) size.0; start = named.0; count = count.0 }) }
-{
-    if named.0 + count.0 > size.0 {
-        return None;
-    }
-    Some(BlockRange {
-        start: named.0,
         count: count.0,
     })
 }
