@@ -3,7 +3,6 @@ use mathlib.Core.Path.{◌≡◌, refl, sym, ap, subst, ◌∙◌}
 use mathlib.Core.Bool.{true, false, cond, true≢false}
 use mathlib.Core.List.{List, []}
 use mathlib.Core.Logic.{◌⊎◌, inl, inr, ⊎_elim}
-use mathlib.Core.Option.{none, some}
 use Prim.Native.Nat.{ℕ, ◌+◌, ◌-◌, ◌/◌, ◌≤◌, ◌<◌}
 use native.Mathlib.Nat.{mod-eq_of_lt}
 use native.Mathlib.Omega.{arith}
@@ -11,6 +10,7 @@ use lib.Bits.{bit_and, and_comm, and_mask}
 use lib.Dec.{eqb}
 use lib.ListN.{length, get_or}
 use borrow.Author.Tests.{le-leb, lt-leb, lt-ltb, le-ltb, eqb-true}
+use Rattle.std.specs.Prelude.{None, Some}
 use Rattle.units.proofs.Cases.{decided, below_or, chosen}
 use Rattle.units.specs.Units.{to_bytes, round_up}
 use Rattle.buffers.proofs.Replace.{range_at}
@@ -137,10 +137,10 @@ module _ (s : Session) (flash worn memory : List ℕ) (e : sound (length flash) 
     where
       done_none : is_write s.window ≡ false → done_actions (lent s flash worn memory) ≡ []
       done_none w =
-          let none = flush_unmarked s.marks (rw (not_markable s.window s.size w) at fit.marks) in
-          ap (until_failure (window_worn s worn)) none ∙ until_all (window_worn s worn) [] (some_none (window_worn s worn))
+          let clear = flush_unmarked s.marks (rw (not_markable s.window s.size w) at fit.marks) in
+          ap (until_failure (window_worn s worn)) clear ∙ until_all (window_worn s worn) [] (some_none (window_worn s worn))
 
   pub close_leaves : Leaves (at_close s) flash worn memory (flush_whole (lent s flash worn memory)).flash (flush_whole (lent s flash worn memory)).actions
   close_leaves =
-      chosen (λ o. Leaves o flash worn memory (flush_whole (lent s flash worn memory)).flash (flush_whole (lent s flash worn memory)).actions) (is_write s.window) (some s) none
+      chosen (λ o. Leaves o flash worn memory (flush_whole (lent s flash worn memory)).flash (flush_whole (lent s flash worn memory)).actions) (is_write s.window) (Some s) None
       (λ _. carried_out) nothing

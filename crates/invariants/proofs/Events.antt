@@ -22,9 +22,8 @@ use Rattle.soundness.specs.Soundness.{sound, sound_at, sound_in}
 use Rattle.soundness.proofs.Access.{told}
 use Rattle.soundness.proofs.Facts.{sizes, fitting}
 use Rattle.flush.specs.Window.{advanced}
-use Rattle.refusals.specs.declared.Reason.TheVariants.{Accepted}
 use Rattle.refusals.specs.declared.Needs.TheVariants.{NewNumber}
-use Rattle.refusals.specs.Refusals.{is_previous, flush_marks, reason_for}
+use Rattle.refusals.specs.Refusals.{Accepted, is_previous, flush_marks, reason_for}
 use Rattle.refusals.proofs.Accepting.{accepts}
 use Rattle.registers.specs.Registers.{command_of, sequence_of, argument, number, bytes_of, padded, reply}
 use Rattle.marklist.specs.MarkList.{answer_for, listed}

@@ -21,10 +21,8 @@ use Rattle.session.specs.Marks.{dirty}
 use Rattle.session.specs.Record.{clean, with_access, with_marks, with_window, drop_window}
 use Rattle.session.proofs.Answers.{either_way}
 use Rattle.soundness.specs.Soundness.{sound_in}
-use Rattle.refusals.specs.declared.BlockRange.{BlockRange}
 use Rattle.refusals.specs.declared.Needs.TheVariants.{WriteWindow}
-use Rattle.refusals.specs.declared.Reason.TheVariants.{Accepted}
-use Rattle.refusals.specs.Refusals.{blocks_named, flush_marks, reason_for}
+use Rattle.refusals.specs.Refusals.{NamedBlocks, Accepted, blocks_named, flush_marks, reason_for}
 use Rattle.refusals.proofs.Accepting.{passed, named_within}
 use Rattle.registers.specs.Registers.{command_of, number}
 use Rattle.marklist.proofs.Reaching.{placed}
@@ -40,11 +38,11 @@ use Rattle.invariants.specs.Marks.{is_named, MarksAsSaid, FlushMarksAsSaid, Same
 use Rattle.invariants.proofs.Kept.{sounds_unless}
 
 -- ---- the marks, block by block: the named blocks as the claim has them
-chosen_start : (t : Bool) (x y : BlockRange) → (cond t x y).start ≡ cond t x.start y.start
+chosen_start : (t : Bool) (x y : NamedBlocks) → (cond t x y).start ≡ cond t x.start y.start
 chosen_start true x y = refl
 chosen_start false x y = refl
 
-chosen_count : (t : Bool) (x y : BlockRange) → (cond t x y).count ≡ cond t x.count y.count
+chosen_count : (t : Bool) (x y : NamedBlocks) → (cond t x y).count ≡ cond t x.count y.count
 chosen_count true x y = refl
 chosen_count false x y = refl
 

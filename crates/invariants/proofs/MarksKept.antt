@@ -13,8 +13,7 @@ use Rattle.buffers.specs.Ranges.{replace}
 use Rattle.session.specs.Marks.{dirty}
 use Rattle.soundness.specs.Soundness.{marks_sound}
 use Rattle.soundness.proofs.SoundMarks.{clean_sound}
-use Rattle.marklist.specs.declared.ListAnswer.TheVariants.{Marked}
-use Rattle.marklist.specs.MarkList.{Pair, first_outside, mark_pairs}
+use Rattle.marklist.specs.MarkList.{Marked, Pair, first_outside, mark_pairs}
 use Rattle.marklist.proofs.InPairs.{inside_front}
 
 module _ (mark : ℕ) (fine : leb mark 2 ≡ true) where

@@ -6,11 +6,12 @@ use Prim.Native.Nat.{ℕ}
 use native.Mathlib.Omega.{arith}
 use lib.Dec.{ltb}
 use lib.ListN.{get_or}
+use Rattle.std.specs.Prelude.{Err}
 use Rattle.session.specs.declared.Session.{Session}
 use Rattle.session.specs.Machine.{Setup, lent}
 use Rattle.flush.specs.Window.{flush_whole}
-use Rattle.refusals.specs.declared.Reason.{Reason}
-use Rattle.refusals.specs.declared.Reason.TheVariants.{Accepted, System, Repeated, Unknown, Suspended, Windowless, Argument}
+use Rattle.refusals.specs.declared.Reason.TheVariants.{System, Repeated, Unknown, Suspended, Windowless, Argument}
+use Rattle.refusals.specs.Refusals.{Checked, Accepted}
 use Rattle.registers.specs.Registers.{command_of}
 use Rattle.mailbox.specs.Commands.{Outcome, numbered}
 use Rattle.mailbox.specs.Table.{Command}
@@ -35,27 +36,27 @@ module _ (setup : Setup) (s : Session) (registers flash worn memory : List ℕ) 
       failed : ◌≡◌ {A = ℕ} (cond (flush_whole (lent (numbered s registers) flash worn memory)).failed 3 2) 1 → ⊥
       failed = late 3 2 (λ q. omega arith) (λ q. omega arith) (flush_whole (lent (numbered s registers) flash worn memory)).failed
 
-  refused_code : (r : Reason) → (r ≡ Accepted → ⊥) → code (answer_to r (command_in registers) setup registers (lent s flash worn memory)) ≡ 1 → ⊥
+  refused_code : (r : Checked) → (r ≡ Accepted → ⊥) → code (answer_to r (command_in registers) setup registers (lent s flash worn memory)) ≡ 1 → ⊥
   unfolding answer_to
   refused_code Accepted n e = n refl
-  refused_code System n e = omega arith
-  refused_code Repeated n e = late 2 8 (λ q. omega arith) (λ q. omega arith) (ltb s.version 2) e
-  refused_code Unknown n e = omega arith
-  refused_code Suspended n e = late 5 6 (λ q. omega arith) (λ q. omega arith) (ltb s.version 2) e
-  refused_code Windowless n e = late 2 7 (λ q. omega arith) (λ q. omega arith) (ltb s.version 2) e
-  refused_code Argument n e = broken_code (command_of registers) e
+  refused_code (Err System) n e = omega arith
+  refused_code (Err Repeated) n e = late 2 8 (λ q. omega arith) (λ q. omega arith) (ltb s.version 2) e
+  refused_code (Err Unknown) n e = omega arith
+  refused_code (Err Suspended) n e = late 5 6 (λ q. omega arith) (λ q. omega arith) (ltb s.version 2) e
+  refused_code (Err Windowless) n e = late 2 7 (λ q. omega arith) (λ q. omega arith) (ltb s.version 2) e
+  refused_code (Err Argument) n e = broken_code (command_of registers) e
 
   pub accepted : code (mediate setup registers (lent s flash worn memory)) ≡ 1 → reason_in setup registers (lent s flash worn memory) ≡ Accepted
   accepted h = go (reason_in setup registers (lent s flash worn memory)) refl
     where
-      no : (r : Reason) → reason_in setup registers (lent s flash worn memory) ≡ r → (r ≡ Accepted → ⊥) → ⊥
+      no : (r : Checked) → reason_in setup registers (lent s flash worn memory) ≡ r → (r ≡ Accepted → ⊥) → ⊥
       no r e n = refused_code r n (ap code (sym (mediate_as setup registers (lent s flash worn memory) r e)) ∙ h)
 
-      go : (r : Reason) → reason_in setup registers (lent s flash worn memory) ≡ r → reason_in setup registers (lent s flash worn memory) ≡ Accepted
+      go : (r : Checked) → reason_in setup registers (lent s flash worn memory) ≡ r → reason_in setup registers (lent s flash worn memory) ≡ Accepted
       go Accepted e = e
-      go System e = absurd (no System e (λ q. let z : ◌≡◌ {A = ℕ} 0 1 = cc in omega arith))
-      go Repeated e = absurd (no Repeated e (λ q. let z : ◌≡◌ {A = ℕ} 0 1 = cc in omega arith))
-      go Unknown e = absurd (no Unknown e (λ q. let z : ◌≡◌ {A = ℕ} 0 1 = cc in omega arith))
-      go Suspended e = absurd (no Suspended e (λ q. let z : ◌≡◌ {A = ℕ} 0 1 = cc in omega arith))
-      go Windowless e = absurd (no Windowless e (λ q. let z : ◌≡◌ {A = ℕ} 0 1 = cc in omega arith))
-      go Argument e = absurd (no Argument e (λ q. let z : ◌≡◌ {A = ℕ} 0 1 = cc in omega arith))
+      go (Err System) e = absurd (no (Err System) e (λ q. let z : ◌≡◌ {A = ℕ} 0 1 = cc in omega arith))
+      go (Err Repeated) e = absurd (no (Err Repeated) e (λ q. let z : ◌≡◌ {A = ℕ} 0 1 = cc in omega arith))
+      go (Err Unknown) e = absurd (no (Err Unknown) e (λ q. let z : ◌≡◌ {A = ℕ} 0 1 = cc in omega arith))
+      go (Err Suspended) e = absurd (no (Err Suspended) e (λ q. let z : ◌≡◌ {A = ℕ} 0 1 = cc in omega arith))
+      go (Err Windowless) e = absurd (no (Err Windowless) e (λ q. let z : ◌≡◌ {A = ℕ} 0 1 = cc in omega arith))
+      go (Err Argument) e = absurd (no (Err Argument) e (λ q. let z : ◌≡◌ {A = ℕ} 0 1 = cc in omega arith))

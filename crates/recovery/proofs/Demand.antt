@@ -14,8 +14,7 @@ use Rattle.session.specs.Marks.{dirty, is_marked}
 use Rattle.session.specs.Events.{control_lost, clear_bits}
 use Rattle.session.specs.Record.{fresh, with_version, with_access}
 use Rattle.soundness.specs.Soundness.{sound, sound_at}
-use Rattle.session.specs.declared.suspension.Suspension.{Suspension}
-use Rattle.session.specs.Suspension.{resumed}
+use Rattle.session.specs.Suspension.{Suspension, resumed}
 use Rattle.soundness.proofs.Access.{resumed_sound}
 use Rattle.soundness.proofs.Facts.{part_within, measured}
 use Rattle.flush.specs.Actions.{flush_actions}

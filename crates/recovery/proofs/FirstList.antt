@@ -19,8 +19,7 @@ use Rattle.session.specs.Marks.{is_marked}
 use Rattle.session.specs.Events.{control_lost, set_bits, clear_bits}
 use Rattle.session.specs.Record.{with_access}
 use Rattle.soundness.specs.Soundness.{marks_sound, markable, sound}
-use Rattle.session.specs.declared.suspension.Suspension.{Suspension}
-use Rattle.session.specs.Suspension.{answer as saying, suspended, resumed}
+use Rattle.session.specs.Suspension.{Suspension, answer as saying, suspended, resumed}
 use Rattle.session.proofs.Answers.{either_way}
 use Rattle.soundness.proofs.Access.{suspended_sound, resumed_sound}
 use Rattle.soundness.proofs.Facts.{sizes, fitting, part_within}
