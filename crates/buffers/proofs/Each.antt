@@ -1,8 +1,8 @@
 -- Laws of two buffers combined byte by byte, for any way to combine two bytes, and of a loop that does it: after i turns the first i bytes
--- are done.
+-- are done. Then of one that is copied over the other.
 use mathlib.Core.Path.{◌≡◌, refl, ap}
 use mathlib.Core.List.{List, [], ◌∷◌, ◌++◌}
-use Prim.Native.Nat.{ℕ, zero, suc, ◌+◌, ◌≤◌, ◌<◌, suc-le-suc, zero-le}
+use Prim.Native.Nat.{ℕ, zero, suc, ◌+◌, ◌≤◌, ◌<◌, min, suc-le-suc, zero-le}
 use native.Mathlib.Nat.{not-suc-le-zero, le_of_suc-le-suc}
 use native.Mathlib.Numerals.{add-one}
 use native.Mathlib.Omega.{arith}
@@ -47,9 +47,17 @@ module _ (f : ℕ → ℕ → ℕ) where
   each_all (suc n) (x ∷ xs) (y ∷ ys) h k =
       ap (λ (t : List ℕ). f x y ∷ t) (each_all n xs ys (le_of_suc-le-suc h) (λ p. le_of_suc-le-suc (k (suc-le-suc p))))
 
--- each byte by the other
-abbrev pub second : ℕ → ℕ → ℕ
-second old new = new
+-- as far as both go the other's bytes, and then what is left
+copied : (n : ℕ) (xs ys : List ℕ) → n ≡ min (length xs) (length ys) → take n ys ++ drop n xs ≡ copy_each xs ys
+copied zero [] ys e = refl
+copied zero (x ∷ xs) [] e = refl
+copied zero (x ∷ xs) (y ∷ ys) e = absurd (omega arith)
+copied (suc n) [] ys e = absurd (omega arith)
+copied (suc n) (x ∷ xs) [] e = absurd (omega arith)
+copied (suc n) (x ∷ xs) (y ∷ ys) e = ap (λ (t : List ℕ). y ∷ t) (copied n xs ys (omega arith))
+
+pub copied_back : (n : ℕ) (xs ys zs : List ℕ) → zs ≡ take n ys → n ≡ min (length xs) (length ys) → zs ++ drop n xs ≡ copy_each xs ys
+copied_back n xs ys zs q e = rw q (copied n xs ys e)
 
 -- one as long is copied whole
 pub copy_whole : (xs ys : List ℕ) → length ys ≡ length xs → copy_each xs ys ≡ ys

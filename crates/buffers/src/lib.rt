@@ -1,7 +1,7 @@
 // Bytes of lent buffers: a part filled with one value, ANDed with another, and copied over.
 //
-// Each function is one plain loop over the part that it is lent, which compiles to a call of memset
-// or memcpy, or to vector code. The definitions also say what it is to replace a range of a buffer.
+// Each function goes over the part that it is lent by a call of memset or memmove, or in vector code.
+// The definitions also say what it is to replace a range of a buffer.
 #![tactic(auto)]
 
 ghost use Rattle.std.specs.Prelude.{◌≡◌, length, replicate};
@@ -11,43 +11,25 @@ ghost use Rattle.buffers.specs.Ranges.{and_each, copy_each};
 pub fn fill(part: &mut [u8], value: u8)
     ensures { part.new ≡ replicate (length part.old) value }
 {
-    let mut i = 0;
-    while i < part.len() {
-        part[i] = value;
-        i += 1;
-    }
+    part.fill(value);
 }
 
 // ANDs each byte of the part with the byte of other at the same place, where other has one.
 pub fn and(part: &mut [u8], other: &[u8])
     ensures { part.new ≡ and_each part.old other.now }
 {
-    let end = if other.len() < part.len() {
-        other.len()
-    } else {
-        part.len()
-    };
-    let mut i = 0;
-    while i < end {
-        let old = part[i];
-        let new = other[i];
-        part[i] = old & new;
-        i += 1;
+    let end = part.len().min(other.len());
+    // No iter_mut().zip(other): std's clauses do not say what the part holds after that loop.
+    for (i, byte) in part[..end].iter_mut().enumerate() {
+        *byte &= other[i];
     }
 }
 
 // Copies the bytes of other over those of the part, as far as both go.
+#[tactic(auto, using(crate::proofs::Each::copied_back))]
 pub fn copy(part: &mut [u8], other: &[u8])
     ensures { part.new ≡ copy_each part.old other.now }
 {
-    let end = if other.len() < part.len() {
-        other.len()
-    } else {
-        part.len()
-    };
-    let mut i = 0;
-    while i < end {
-        part[i] = other[i];
-        i += 1;
-    }
+    let end = part.len().min(other.len());
+    part[..end].copy_from_slice(&other[..end]);
 }

@@ -1,12 +1,12 @@
 -- What the lent parts leave when they come back, as the contracts say it.
 use mathlib.Core.Path.{◌≡◌, refl, ap, ◌∙◌}
-use mathlib.Core.Bool.{true, false}
+use mathlib.Core.Bool.{true}
 use mathlib.Core.List.{List}
 use Prim.Native.Nat.{ℕ, ◌+◌, ◌-◌, ◌*◌, ◌≤◌, ◌<◌}
 use native.Mathlib.Omega.{arith}
 use lib.ListN.{length, replicate}
 use borrow.Rule.Slice.PartMut.{put_mid, mid_of, mid_len}
-use borrow.Author.Tests.{le-leb, lt-leb, lt-ltb, le-ltb}
+use borrow.Author.Tests.{le-leb, lt-ltb}
 use Rattle.buffers.specs.Ranges.{range, replace, and_each}
 use lib.Bits.{bit_and}
 use Rattle.buffers.proofs.Each.{each_length}
@@ -30,11 +30,6 @@ programmed_part a e n xs ws ys h f q =
     count = omega arith
 
 module _ (b a : ℕ) (flash : List ℕ) (start : a ≡ to_bytes b) where
-  pub erase_out : length flash < a + 4096 → (false ≡ has_block b flash) × (flash ≡ erase_block b flash)
-  erase_out h =
-      let t = lt-leb (to_bytes b + 4096) (length flash) (omega arith) in
-      (rw t, rw t)
-
   pub erase_done : (ys : List ℕ) → a + 4096 ≤ length flash → ys ≡ replicate (length (mid_of a (a + 4096 - a) flash)) 0xff
       → (true ≡ has_block b flash) × (put_mid a (a + 4096 - a) flash ys ≡ erase_block b flash)
   erase_done ys h q =
@@ -42,23 +37,6 @@ module _ (b a : ℕ) (flash : List ℕ) (start : a ≡ to_bytes b) where
       (rw t, rw t (erased_part a (a + 4096) 4096 flash ys refl h q ∙ ap (λ (s : ℕ). erased s 4096 flash) start))
 
   module _ (p : ℕ) (window : List ℕ) where
-    pub page_out : 16 ≤ p → (false ≡ has_page b p window flash) × (flash ≡ program_page b p window flash)
-    page_out h = let t = le-ltb p 16 h in (rw t, rw t)
-
-    pub flash_out : p < 16 → length flash < a + 4096 → (false ≡ has_page b p window flash) × (flash ≡ program_page b p window flash)
-    flash_out h f =
-        let t = lt-ltb p 16 h in
-        let u = lt-leb (to_bytes b + 4096) (length flash) (omega arith) in
-        (rw (t, u), rw (t, u))
-
-    pub window_out : p < 16 → a + 4096 ≤ length flash → length window < a + 4096
-        → (false ≡ has_page b p window flash) × (flash ≡ program_page b p window flash)
-    window_out h f w =
-        let t = lt-ltb p 16 h in
-        let u = le-leb (to_bytes b + 4096) (length flash) (omega arith) in
-        let v = lt-leb (to_bytes b + 4096) (length window) (omega arith) in
-        (rw (t, u, v), rw (t, u, v))
-
     pub page_done : (ys : List ℕ) → p < 16 → a + 4096 ≤ length flash → a + 4096 ≤ length window
         → ys ≡ and_each (mid_of (a + p * 256) (a + p * 256 + 256 - (a + p * 256)) flash) (mid_of (a + p * 256) (a + p * 256 + 256 - (a + p * 256)) window)
         → (true ≡ has_page b p window flash)

@@ -10,10 +10,11 @@ ghost use Rattle.chip.specs.Actions.{has_block, erase_block, has_page, program_p
 use buffers::{and, fill};
 use units::{BLOCK, Blocks};
 
-// The bytes of a page, and the pages of a block.
+// The bytes of a page.
 const PAGE: usize = 256;
 
-const PAGES: u32 = 16;
+// The pages of a block.
+pub const PAGES: u32 = 16;
 
 // What an erased byte holds.
 const ERASED: u8 = 0xff;
@@ -25,6 +26,7 @@ pub fn erase_block(flash: &mut [u8], block: Blocks) -> bool
 {
     let start = block.bytes().0 as usize;
     let end = start + BLOCK as usize;
+    // No get_mut(start..end): std's clauses do not say what the flash holds after it.
     if flash.len() < end {
         return false;
     }
@@ -39,13 +41,7 @@ pub fn program_page(flash: &mut [u8], window: &[u8], block: Blocks, page: u32) -
 {
     let start = block.bytes().0 as usize;
     let end = start + BLOCK as usize;
-    if PAGES <= page {
-        return false;
-    }
-    if flash.len() < end {
-        return false;
-    }
-    if window.len() < end {
+    if PAGES <= page || flash.len() < end || window.len() < end {
         return false;
     }
     let from = start + (page as usize) * PAGE;

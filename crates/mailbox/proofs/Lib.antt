@@ -5,4 +5,5 @@ pub mod Front
 pub mod Lengths
 mod Marking
 pub mod Mediating
+pub mod Ran
 pub mod Refusing

@@ -1,11 +1,12 @@
-// The answer to a command: the session, the registers and the number of chip actions.
-ghost use Rattle.std.specs.Prelude.{◌≡◌, []};
+// The answer to a command: the session that it leaves, the registers and the number of chip actions.
+ghost use Rattle.std.specs.Prelude.{◌≡◌, Some, []};
 ghost use Rattle.session.specs.Record.{with_marks, drop_window};
 ghost use Rattle.flush.specs.Window.{left_marks};
 ghost use Rattle.mailbox.specs.Commands.{answer_with, answered};
 
 use crate::Answer;
-use flush::{Flush, left_marks};
+use crate::calls::Call;
+use flush::left_marks;
 use registers::{NO_ARGUMENTS, replied};
 use session::{Session, without_window};
 use soundness::with_marks;
@@ -13,47 +14,36 @@ use soundness::with_marks;
 // WRITE_ERROR: the erase of a worn block failed.
 pub(crate) const WRITE_ERROR: u8 = 3;
 
-// An answer with its registers.
-pub(crate) fn answer(
-    session: Session,
-    registers: [u8; 16],
-    code: u8,
-    arguments: [u8; 11],
-    actions: u32,
-) -> Answer
-    ensures { result ≡ answer_with session registers code arguments actions }
-{
-    let after = replied(registers, code, arguments, session.events);
-    Answer {
-        session,
-        registers: after,
-        actions,
+impl Call {
+    // The answer that leaves this session.
+    pub(crate) fn answer(
+        self,
+        session: Session,
+        code: u8,
+        arguments: [u8; 11],
+        actions: u32,
+    ) -> Answer
+        ensures { result ≡ answer_with session self.registers code arguments actions }
+    {
+        Answer {
+            session,
+            registers: replied(self.registers, code, arguments, session.events),
+            actions,
+        }
     }
-}
 
-// A flush that stopped at a worn block: the window stays, with the marks that are left.
-pub(crate) fn stopped(session: Session, registers: [u8; 16], flush: Flush) -> Answer
-    ensures { result ≡ answered (with_marks (left_marks flush.finished session.marks) session) registers 3 [] flush.actions }
-{
-    let marks = session.marks;
-    answer(
-        with_marks(session, left_marks(marks, flush.finished)),
-        registers,
-        WRITE_ERROR,
-        NO_ARGUMENTS,
-        flush.actions,
-    )
-}
+    // A flush that stopped at a worn block: the window stays, with the marks that are left.
+    pub(crate) fn stopped(self, failed: u32, actions: u32) -> Answer
+        ensures { result ≡ answered (with_marks (left_marks (Some failed) self.session.marks) self.session) self.registers 3 [] actions }
+    {
+        let left = left_marks(self.session.marks, Some(failed));
+        self.answer(with_marks(self.session, left), WRITE_ERROR, NO_ARGUMENTS, actions)
+    }
 
-// The window is dropped after so many actions.
-pub(crate) fn dropped(session: Session, registers: [u8; 16], code: u8, actions: u32) -> Answer
-    ensures { result ≡ answered (drop_window session) registers code [] actions }
-{
-    answer(
-        without_window(session),
-        registers,
-        code,
-        NO_ARGUMENTS,
-        actions,
-    )
+    // The window is dropped after so many actions.
+    pub(crate) fn dropped(self, code: u8, actions: u32) -> Answer
+        ensures { result ≡ answered (drop_window self.session) self.registers code [] actions }
+    {
+        self.answer(without_window(self.session), code, NO_ARGUMENTS, actions)
+    }
 }

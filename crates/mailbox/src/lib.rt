@@ -14,14 +14,13 @@ ghost use Rattle.session.specs.Machine.{set_up, lent};
 ghost use Rattle.mailbox.specs.Commands.{outcome};
 ghost use Rattle.mailbox.specs.Mediator.{mediate};
 
-use answers::answer;
 use calls::{Call, unknown};
 use info::{get_flash_info, get_info};
 use marks::{acknowledge, erase, flush, mark_dirty};
-use registers::NO_ARGUMENTS;
-use session::{Board, Session};
+use registers::{NO_ARGUMENTS, replied};
+use session::{Board, Session, Window};
 use soundness::is_sound_at;
-use windows::{close_window, create_read_window, create_write_window, reset};
+use windows::{close_window, create, reset};
 
 // What a command gives back: the session, the 16 registers and the number of chip actions.
 #[derive(Clone, Copy)]
@@ -31,8 +30,8 @@ pub struct Answer {
     pub actions: u32,
 }
 
-// Serves one mailbox command: SYSTEM_ERROR first, then the published table of commands in its order, each with the first
-// version that knows it. RESET, GET_INFO and ACK are unversioned; 11 and 12 are version 3's.
+// Serves one mailbox command: SYSTEM_ERROR first, then the published table of commands in its order. RESET, GET_INFO and ACK are
+// unversioned; 11 and 12 are version 3's.
 #[tactic(auto, using(crate::proofs::Arms::read_row, crate::proofs::Arms::write_row, crate::proofs::Arms::erase_row, crate::proofs::Arms::past_row))]
 pub fn command(
     session: Session,
@@ -47,27 +46,33 @@ pub fn command(
 {
     // SYSTEM_ERROR keeps the previous number
     if !is_sound_at(session, board, flash.len(), worn.len(), memory.len()) {
-        return answer(session, registers, 4, NO_ARGUMENTS, 0);
+        return Answer {
+            session,
+            registers: replied(registers, 4, NO_ARGUMENTS, session.events),
+            actions: 0,
+        };
     }
-    let version = session.version;
-    let code = registers[0];
     let call = Call {
         session,
         registers,
         board,
     };
-    match code {
+    let ran = match registers[0] {
         0 => unknown(call),
         1 => reset(call),
         2 => get_info(call, memory),
-        3 => get_flash_info(version >= 1, call, flash),
-        4 => create_read_window(version >= 1, call, flash, worn, memory),
-        5 => close_window(version >= 1, call, flash, worn, memory),
-        6 => create_write_window(version >= 1, call, flash, worn, memory),
-        7 => mark_dirty(version >= 1, call),
-        8 => flush(version >= 1, call, flash, worn, memory),
+        3 => get_flash_info(call, flash),
+        4 => create(Window::Read, call, flash, worn, memory),
+        5 => close_window(call, flash, worn, memory),
+        6 => create(Window::Write, call, flash, worn, memory),
+        7 => mark_dirty(call),
+        8 => flush(call, flash, worn, memory),
         9 => acknowledge(call),
-        10 => erase(version >= 2, call, memory),
+        10 => erase(call, memory),
         11..=255 => unknown(call),
+    };
+    match ran {
+        Ok(answer) => answer,
+        Err(reason) => call.refused(reason),
     }
 }

@@ -2,201 +2,123 @@
 ghost use Rattle.std.specs.Prelude.{◌≡◌, true, ℕ, ◌+◌, ◌≤◌, ◌<◌, List, length, get_or, set, replicate};
 ghost use Rattle.buffers.specs.Ranges.{replace};
 ghost use Rattle.units.specs.Units.{to_bytes};
+ghost use Rattle.chip.specs.Actions.{erased};
 ghost use Rattle.session.specs.Machine.{lent};
 ghost use Rattle.session.specs.Marks.{dirty, erased_mark, of_kind, counts_of};
-ghost use Rattle.refusals.specs.Refusals.{blocks_named, flush_marks};
-ghost use Rattle.mailbox.specs.Commands.{outcome, marked, flushed_all, flushed, erased_outcome};
+ghost use Rattle.session.specs.Record.{with_marks};
+ghost use Rattle.mailbox.specs.Commands.{outcome, flushed_all};
 ghost use Rattle.mailbox.specs.Table.{mark_dirty, flush, ack, erase};
-ghost use Rattle.mailbox.specs.Calls.{obeyed_by};
+ghost use Rattle.mailbox.specs.Calls.{ran, obeyed_by};
 
 use crate::Answer;
-use crate::answers::{answer, stopped};
-use crate::calls::{Call, refuse, with_number};
+use crate::calls::Call;
 use buffers::fill;
-use flush::{ALL_BLOCKS, flush_window};
-use refusals::{Needs, Reason, blocks_named, flush_marks, flush_outside, reason_for};
+use flush::flush_window;
+use refusals::{BlockRange, Needs, Reason, blocks_named, flush_marks, flush_outside};
 use registers::NO_ARGUMENTS;
 use session::{
-    Counts, DIRTY, ERASED, Session, acknowledge_events, of_kind, with_access, with_counted,
-    without_marks,
+    Counts, DIRTY, ERASED, acknowledge_events, of_kind, with_access, with_counted, without_marks,
 };
 use units::Blocks;
 
 // MARK_DIRTY: the named blocks are marked dirty, if they lie in the window.
-pub(crate) fn mark_dirty(known: bool, call: Call) -> Answer
-    requires { (call.session.size ≤ 64) × (call.session.counts ≡ counts_of call.session.marks) }
-    ensures { (flash worn memory : List ℕ) → known ≡ mark_dirty.known call.session.version
-        → outcome result flash worn memory ≡ obeyed_by mark_dirty call flash worn memory }
+pub(crate) fn mark_dirty(call: Call) -> Result<Answer, Reason>
+    ensures { (flash worn memory : List ℕ) → ran result call flash worn memory ≡ obeyed_by mark_dirty call flash worn memory }
 {
-    let session = call.session;
-    let registers = call.registers;
-    let outside = !blocks_named(session, registers).inside;
-    let reason = reason_for(session, registers, known, Needs::WriteWindow, outside);
-    let Reason::Accepted = reason else {
-        return refuse(call, reason);
-    };
-    let next = mark_named(with_number(call), registers, DIRTY);
-    answer(next, registers, 1, NO_ARGUMENTS, 0)
+    call.check(1, Needs::WriteWindow, false)?;
+    let named = blocks_named(call.session, call.registers).ok_or(Reason::Argument)?;
+    let marked = call.numbered().marked(named, DIRTY);
+    Ok(marked.answer(marked.session, 1, NO_ARGUMENTS, 0))
 }
 
 // ERASE: the named blocks are marked erased and become FF in the window memory, if they lie in the window.
-pub(crate) fn erase(known: bool, call: Call, memory: &mut [u8]) -> Answer
-    requires size_bound { (call.session.size ≤ 64) × (to_bytes call.session.size ≤ length memory.old) }
-    requires counts_value { call.session.counts ≡ counts_of call.session.marks }
-    ensures { (flash worn : List ℕ) → known ≡ erase.known call.session.version
-        → outcome result flash worn memory.new ≡ obeyed_by erase call flash worn memory.old }
+pub(crate) fn erase(call: Call, memory: &mut [u8]) -> Result<Answer, Reason>
+    requires { to_bytes call.session.size ≤ length memory.old }
+    ensures { (flash worn : List ℕ) → ran result call flash worn memory.new ≡ obeyed_by erase call flash worn memory.old }
 {
-    let session = call.session;
-    let registers = call.registers;
-    let outside = !blocks_named(session, registers).inside;
-    let reason = reason_for(session, registers, known, Needs::WriteWindow, outside);
-    let Reason::Accepted = reason else {
-        return refuse(call, reason);
-    };
-    erase_named(with_number(call), registers, memory)
+    call.check(2, Needs::WriteWindow, false)?;
+    let named = blocks_named(call.session, call.registers).ok_or(Reason::Argument)?;
+    fill_blocks(memory, named);
+    let marked = call.numbered().marked(named, ERASED);
+    Ok(marked.answer(marked.session, 1, NO_ARGUMENTS, 0))
 }
 
 // FLUSH: the marked blocks are flushed, if those that it marks itself lie in the window.
-pub(crate) fn flush(known: bool, call: Call, flash: &mut [u8], worn: &[u8], memory: &[u8]) -> Answer
-    requires { (call.session.size ≤ 64) × (call.session.counts ≡ counts_of call.session.marks) }
-    ensures { known ≡ flush.known call.session.version
-        → outcome result flash.new worn.now memory.now ≡ obeyed_by flush call flash.old worn.now memory.now }
+pub(crate) fn flush(
+    call: Call,
+    flash: &mut [u8],
+    worn: &[u8],
+    memory: &[u8],
+) -> Result<Answer, Reason>
+    ensures { ran result call flash.new worn.now memory.now ≡ obeyed_by flush call flash.old worn.now memory.now }
 {
-    let session = call.session;
-    let registers = call.registers;
-    let outside = flush_outside(session, registers);
-    let reason = reason_for(session, registers, known, Needs::WriteWindow, outside);
-    let Reason::Accepted = reason else {
-        return refuse(call, reason);
+    call.check(1, Needs::WriteWindow, flush_outside(call.session, call.registers))?;
+    let named = if flush_marks(call.session, call.registers) {
+        blocks_named(call.session, call.registers)
+    } else {
+        None
     };
-    flush_named(with_number(call), registers, flash, worn, memory)
+    let flushing = match named {
+        Some(named) => call.numbered().marked(named, DIRTY),
+        None => call.numbered(),
+    };
+    Ok(flush_all(flushing, flash, worn, memory))
 }
 
 // ACK: clears those of the two events that argument 0 names, and no other bit.
-pub(crate) fn acknowledge(call: Call) -> Answer
-    ensures { (flash worn memory : List ℕ) → outcome result flash worn memory ≡ obeyed_by ack call flash worn memory }
+pub(crate) fn acknowledge(call: Call) -> Result<Answer, Reason>
+    ensures { (flash worn memory : List ℕ) → ran result call flash worn memory ≡ obeyed_by ack call flash worn memory }
 {
-    let session = call.session;
-    let registers = call.registers;
-    let reason = reason_for(session, registers, true, Needs::NewNumber, false);
-    let Reason::Accepted = reason else {
-        return refuse(call, reason);
-    };
-    let next = with_number(call);
-    let events = acknowledge_events(next.events, registers[2]);
+    call.check(0, Needs::NewNumber, false)?;
+    let next = call.numbered().session;
+    let events = acknowledge_events(next.events, call.registers[2]);
     let cleared = with_access(next, next.suspended, events);
-    answer(cleared, registers, 1, NO_ARGUMENTS, 0)
+    Ok(call.answer(cleared, 1, NO_ARGUMENTS, 0))
 }
 
-// The named blocks are marked erased, and become FF in the window memory.
-fn erase_named(session: Session, registers: [u8; 16], memory: &mut [u8]) -> Answer
-    requires registers_bound { (blocks_named session registers).start + (blocks_named session registers).count ≤ 64 }
-    requires registers_in_bounds { to_bytes (blocks_named session registers).start + to_bytes (blocks_named session registers).count ≤ length memory.old }
-    requires counts_value { session.counts ≡ counts_of session.marks }
-    ensures { (flash worn : List ℕ) → outcome result flash worn memory.new ≡ erased_outcome registers (lent session flash worn memory.old) }
+// The blocks of the window memory become FF.
+fn fill_blocks(memory: &mut [u8], named: BlockRange)
+    requires { to_bytes named.start + to_bytes named.count ≤ length memory.old }
+    ensures { memory.new ≡ erased (to_bytes named.start) (to_bytes named.count) memory.old }
 {
-    let named = blocks_named(session, registers);
     let start = Blocks(named.start).bytes().0 as usize;
     let end = start + Blocks(named.count).bytes().0 as usize;
     fill(&mut memory[start..end], 0xff);
-    answer(
-        mark_named(session, registers, ERASED),
-        registers,
-        1,
-        NO_ARGUMENTS,
-        0,
-    )
-}
-
-// The marked blocks are flushed; at version 1 the named ones are marked dirty first.
-fn flush_named(
-    session: Session,
-    registers: [u8; 16],
-    flash: &mut [u8],
-    worn: &[u8],
-    memory: &[u8],
-) -> Answer
-    requires registers_bound { flush_marks session registers ≡ true → (blocks_named session registers).start + (blocks_named session registers).count ≤ 64 }
-    requires counts_value { session.counts ≡ counts_of session.marks }
-    ensures { outcome result flash.new worn.now memory.now ≡ flushed registers (lent session flash.old worn.now memory.now) }
-{
-    if flush_marks(session, registers) {
-        return flush_all(
-            mark_named(session, registers, DIRTY),
-            registers,
-            flash,
-            worn,
-            memory,
-        );
-    }
-    flush_all(session, registers, flash, worn, memory)
 }
 
 // All marked blocks are flushed, up to the first whose erase fails.
-fn flush_all(
-    session: Session,
-    registers: [u8; 16],
-    flash: &mut [u8],
-    worn: &[u8],
-    memory: &[u8],
-) -> Answer
-    ensures { outcome result flash.new worn.now memory.now ≡ flushed_all registers (lent session flash.old worn.now memory.now) }
+fn flush_all(call: Call, flash: &mut [u8], worn: &[u8], memory: &[u8]) -> Answer
+    ensures { outcome result flash.new worn.now memory.now ≡ flushed_all call.registers (lent call.session flash.old worn.now memory.now) }
 {
-    let flush = flush_window(session, flash, worn, memory);
-    if flush.finished < ALL_BLOCKS {
-        return stopped(session, registers, flush);
+    let flush = flush_window(call.session, flash, worn, memory);
+    match flush.failed {
+        Some(block) => call.stopped(block, flush.actions),
+        None => call.answer(without_marks(call.session), 1, NO_ARGUMENTS, flush.actions),
     }
-    answer(
-        without_marks(session),
-        registers,
-        1,
-        NO_ARGUMENTS,
-        flush.actions,
-    )
 }
 
-// The session with one mark at each named block.
-fn mark_named(session: Session, registers: [u8; 16], mark: u8) -> Session
-    requires registers_bound { (blocks_named session registers).start + (blocks_named session registers).count ≤ 64 }
-    requires counts_value { session.counts ≡ counts_of session.marks }
-    ensures { result ≡ marked mark session registers }
-{
-    let named = blocks_named(session, registers);
-    let marks = session.marks;
-    let counts = session.counts;
-    let marking = mark_blocks(
-        Marking { marks, counts },
-        named.start as usize,
-        named.count as usize,
-        mark,
-    );
-    let after = marking.marks;
-    with_counted(session, after, marking.counts)
-}
-
-// Marks, and their numbers.
-#[derive(Clone, Copy)]
-pub struct Marking {
-    pub marks: [u8; 64],
-    pub counts: Counts,
-}
-
-// One mark from a block on. What it replaces is counted where it is replaced, so that no other mark is looked at.
-fn mark_blocks(marking: Marking, start: usize, count: usize, mark: u8) -> Marking
-    requires count_bound { start + count ≤ 64 }
-    requires counts_value { marking.counts ≡ counts_of marking.marks }
-    ensures { (result.marks ≡ replace start (replicate count mark) marking.marks) × (result.counts ≡ counts_of result.marks) }
-{
-    let mut marks = marking.marks;
-    let mut counts = marking.counts;
-    let mut i = 0;
-    while i < count {
-        let at = start + i;
-        counts = recount(counts, marks[at], mark);
-        marks[at] = mark;
-        i += 1;
+impl Call {
+    // The call with one mark at each named block. What a mark replaces is counted where it is replaced, so that no other
+    // mark is looked at.
+    fn marked(self, named: BlockRange, mark: u8) -> Call
+        requires { named.start + named.count ≤ self.session.size }
+        ensures session { result.session ≡ with_marks (replace named.start (replicate named.count mark) self.session.marks) self.session }
+        ensures registers { result.registers ≡ self.registers }
+        ensures board { result.board ≡ self.board }
+    {
+        let start = named.start as usize;
+        let end = start + named.count as usize;
+        let mut marks = self.session.marks;
+        let mut counts = self.session.counts;
+        for at in start..end {
+            counts = recount(counts, marks[at], mark);
+            marks[at] = mark;
+        }
+        Call {
+            session: with_counted(self.session, marks, counts),
+            ..self
+        }
     }
-    Marking { marks, counts }
 }
 
 // The numbers of some marks, with one of them replaced.

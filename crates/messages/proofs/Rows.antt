@@ -10,9 +10,9 @@ use borrow.Author.Tests.{eqb-true, eq-eqb, not-false}
 use Rattle.units.proofs.Cases.{chosen, both}
 use Rattle.registers.specs.Registers.{padded}
 use Rattle.registers.proofs.Fields.{elements, elements_of}
-use Rattle.messages.specs.Lengths.{asked, told}
+use Rattle.messages.specs.Lengths.{told}
 use Rattle.messages.specs.Messages.{wrong_length, unpacked, arguments_of, packed_from, values_of}
-use Rattle.messages.specs.Parameters.{Parameter, y, q, u, Row, table, row_in, row_of, is_row, bytes_in}
+use Rattle.messages.specs.Parameters.{Parameter, y, q, u, Row, table, row_in, row_of, bytes_in}
 
 abbrev pub Every : (ℕ → ℕ → Option Row → Type 0) → List Row → Type 0
 Every P [] = Unit
@@ -40,33 +40,6 @@ unfolding row_of
 each_row P e n code version = each_in P table e n code version
 
 -- ---- lengths
-
--- no row has a request of 255 bytes, which the code has for no row
-pub known_asked : (code version : ℕ) → eqb (asked (row_of code version)) 255 ≡ not (is_row (row_of code version))
-unfolding table
-known_asked =
-    each_row (λ (code : ℕ) (version : ℕ) (o : Option Row). eqb (asked o) 255 ≡ not (is_row o))
-    (refl & refl & refl & refl & refl & refl & refl & refl & refl & refl & refl & refl & refl & refl & refl & refl & refl & refl & refl & refl
-    & refl & refl & tt)
-    (λ _ _. refl)
-
-pub wrong_as : (o : Option Row) (count : ℕ) → eqb (asked o) 255 ≡ not (is_row o)
-    → wrong_length o count ≡ cond (eqb (asked o) 255) false (not (eqb count (asked o)))
-wrong_as None count e = refl
-wrong_as (Some r) count e = rw e
-
--- the commands whose response has no parameter at any version
-pub told_nothing : (code version : ℕ) → (code ≡ 2 → ⊥) → (code ≡ 3 → ⊥) → (code ≡ 4 → ⊥) → (code ≡ 6 → ⊥) → told (row_of code version) ≡ 0
-unfolding table
-told_nothing =
-    each_row
-    (λ (code : ℕ) (version : ℕ) (o : Option Row). (code ≡ 2 → ⊥) → (code ≡ 3 → ⊥) → (code ≡ 4 → ⊥) → (code ≡ 6 → ⊥) → told o ≡ 0)
-    ((λ n2 n3 n4 n6. refl) & (λ n2 n3 n4 n6. refl) & (λ n2 n3 n4 n6. refl) & (λ n2 n3 n4 n6. absurd (n2 refl)) & (λ n2 n3 n4 n6. absurd (n2 refl))
-    & (λ n2 n3 n4 n6. absurd (n2 refl)) & (λ n2 n3 n4 n6. absurd (n3 refl)) & (λ n2 n3 n4 n6. absurd (n3 refl)) & (λ n2 n3 n4 n6. absurd (n4 refl))
-    & (λ n2 n3 n4 n6. absurd (n4 refl)) & (λ n2 n3 n4 n6. refl) & (λ n2 n3 n4 n6. refl) & (λ n2 n3 n4 n6. absurd (n6 refl))
-    & (λ n2 n3 n4 n6. absurd (n6 refl)) & (λ n2 n3 n4 n6. refl) & (λ n2 n3 n4 n6. refl) & (λ n2 n3 n4 n6. refl) & (λ n2 n3 n4 n6. refl)
-    & (λ n2 n3 n4 n6. refl) & (λ n2 n3 n4 n6. refl) & (λ n2 n3 n4 n6. refl) & (λ n2 n3 n4 n6. refl) & tt)
-    (λ _ _ n2 n3 n4 n6. refl)
 
 -- nor has one at another version than 1 and 2
 pub told_elsewhere : (code version : ℕ) → (version ≡ 1 → ⊥) → (version ≡ 2 → ⊥) → told (row_of code version) ≡ 0

@@ -44,12 +44,20 @@ wrong_length (Some r) count = not (eqb count (bytes_in r.request))
 abbrev pub malformed : ℕ → List ℕ → Bool
 malformed version message = ltb (length message) 4 || wrong_length (row_of (hiomap_command_of message) version) (length message - 4)
 
+-- what becomes of a message: it is a command for the mediator, or it is refused
+abbrev pub Taken : Type 0
+Taken = Result Unit Refusal
+
+-- no check refuses it
+pattern abbrev pub Command : Taken
+Command = Ok tt
+
 -- "under two bytes, the empty response; foreign pair, C1 hex; under four bytes, or a wrong length .., C7 hex"; otherwise it is a command for the mediator
-unfoldable pub taken_as : Pair → ℕ → List ℕ → Result Unit Refusal
+unfoldable pub taken_as : Pair → ℕ → List ℕ → Taken
 taken_as pair version message =
     cond (ltb (length message) 2) (Err Short)
     (cond (not (is_own pair message)) (Err Foreign)
-    (cond (malformed version message) (Err Malformed) (Ok tt)))
+    (cond (malformed version message) (Err Malformed) Command))
 
 -- ---- "unpack the hiomap command as the I columns of 000 and 002 say"
 
@@ -71,8 +79,8 @@ registers_of version message =
     ∷ (arguments_of (row_of (hiomap_command_of message) version) (parameters_of message) ++ (0 ∷ 0 ∷ 0 ∷ []))
 
 -- a message that is refused has none
-abbrev pub opened_as : Result Unit Refusal → ℕ → List ℕ → Result (List ℕ) Refusal
-opened_as (Ok taken) version message = Ok (registers_of version message)
+abbrev pub opened_as : Taken → ℕ → List ℕ → Result (List ℕ) Refusal
+opened_as Command version message = Ok (registers_of version message)
 opened_as (Err refused) version message = Err refused
 
 -- whether a message is taken, and its registers

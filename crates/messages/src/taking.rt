@@ -8,6 +8,7 @@ use crate::lengths::request_bytes;
 use crate::{Pair, Refusal};
 
 // Takes a message or refuses it, by the board's pair and the agreed version, and unpacks it.
+#[tactic(auto, using(crate::proofs::Passing::opened_taken))]
 pub fn open_message(pair: Pair, version: u8, message: &[u8]) -> Result<[u8; 16], Refusal>
     ensures { result ≡ opened pair version message.now }
 {

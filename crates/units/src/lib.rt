@@ -13,19 +13,20 @@ ghost use Rattle.units.specs.Units.{to_bytes, to_blocks};
 pub const BLOCK: u64 = 4096;
 
 // A number of blocks, or the number of a block.
-#[derive(Clone, Copy)]
+#[derive(Clone, Copy, PartialEq, Eq, PartialOrd, Ord)]
 pub struct Blocks(pub u32);
 
 // A number of bytes, or the offset of a byte.
-#[derive(Clone, Copy)]
+#[derive(Clone, Copy, PartialEq, Eq, PartialOrd, Ord)]
 pub struct Bytes(pub u64);
 
+// Methods, and no From between the two: a name says which unit comes out, and `blocks` does not give back what `bytes` got.
 impl Blocks {
     // The bytes of so many blocks, which is also the offset where the block of this number starts.
     pub fn bytes(self) -> Bytes
         ensures { result.0 ≡ to_bytes self.0 }
     {
-        Bytes((self.0 as u64) * BLOCK)
+        Bytes(u64::from(self.0) * BLOCK)
     }
 }
 
@@ -34,17 +35,7 @@ impl Bytes {
     pub fn blocks(self) -> Blocks
         ensures { result.0 ≡ to_blocks self.0 }
     {
-        let length = self.0;
-        let whole = length / BLOCK;
-        let count = if length % BLOCK == 0 {
-            whole
-        } else {
-            whole + 1
-        };
-        if count <= 0xffff_ffff {
-            Blocks(count as u32)
-        } else {
-            Blocks(0xffff_ffff)
-        }
+        let count = self.0.div_ceil(BLOCK);
+        Blocks(u32::try_from(count).unwrap_or(u32::MAX))
     }
 }

@@ -7,25 +7,24 @@ use Rattle.marklist.proofs.pairs.farthest_ends.Goals as goal
 
 pub loop-place-init : goal.loop-place-init
 unfolding no_ends
-loop-place-init c = (omega arith, refl, refl, c.requires)
+loop-place-init c = (refl, refl, c.requires)
 
 pub loop-place-preserved : goal.loop-place-preserved
 loop-place-preserved c =
     let list = c.args.list.now in
     let l = c.loop-place in
     let long : 2 * l.place + 1 < length list = omega arith in
-    let within = inside_at 64 l.place list long l.invariant.3 in
-    let whole = l.invariant.1 in
+    let within = inside_at 64 l.place list long l.invariant.2 in
+    let whole = l.invariant.0 in
     let rest = pairs_of (drop (2 * (l.place + 1)) list) in (
-      omega arith,
       simp length-set whole,
-      ap (λ (n : ℕ). ends_from rest (set l.ends (get_or list (2 * l.place) 0) n)) c.larger.ensures
+      ap (λ (n : ℕ). ends_from rest (set l.ends (get_or list (2 * l.place) 0) n)) c.max.ensures
           ∙ sym (ap (λ (pairs : List Pair). ends_from pairs l.ends) (pair_at list l.place long))
-          ∙ l.invariant.2,
+          ∙ l.invariant.1,
       within.1,
     )
 
 pub returns : goal.returns
 returns c =
     let l = c.loop-place in
-    sym (ap (λ (pairs : List Pair). ends_from pairs l.ends) (none_left c.args.list.now (2 * l.place) (omega arith))) ∙ l.invariant.2
+    sym (ap (λ (pairs : List Pair). ends_from pairs l.ends) (none_left c.args.list.now (2 * l.place) (omega arith))) ∙ l.invariant.1
