@@ -13,10 +13,9 @@ use Rattle.units.proofs.Cases.{decided}
 use Rattle.session.specs.Machine.{Setup, Machine}
 use Rattle.registers.specs.Registers.{command_of, sequence_of}
 use Rattle.registers.proofs.Fields.{elements, elements_of}
-use Rattle.messages.specs.declared.Taken.TheVariants.{Command}
 use Rattle.messages.specs.Parameters.{Parameter, y, q, u, Row, table, row_of, bytes_in}
 use Rattle.messages.specs.Lengths.{told}
-use Rattle.messages.specs.Messages.{registers_of, headed, packed_from, values_of, status_of, completion_of, response_of}
+use Rattle.messages.specs.Messages.{Command, registers_of, headed, packed_from, values_of, status_of, completion_of, response_of}
 use Rattle.messages.proofs.Rows.{◌&◌, each_row, packed_long}
 use Rattle.mailbox.specs.Commands.{Outcome}
 use Rattle.mailbox.specs.Mediator.{mediate}

@@ -2,20 +2,18 @@
 use mathlib.Core.Path.{◌≡◌, refl, sym, subst, ◌∙◌}
 use mathlib.Core.Bool.{Bool, true, false, ◌&&◌, ◌||◌, false≢true}
 use mathlib.Core.List.{List, [], ◌∷◌, ◌++◌}
-use mathlib.Core.Option.{Option}
 use Prim.Native.Nat.{ℕ, suc, ◌+◌, ◌-◌, ◌*◌, ◌/◌, ◌<◌}
 use native.Mathlib.Omega.{arith}
 use lib.Dec.{ltb}
 use lib.ListN.{length}
 use borrow.Author.Tests.{eq-eqb, le-ltb}
+use Rattle.std.specs.Prelude.{Option}
 use Rattle.session.specs.Machine.{Setup, Machine}
 use Rattle.registers.specs.Registers.{command_of, sequence_of}
 use Rattle.registers.proofs.Fields.{elements, elements_of}
 use Rattle.messages.specs.declared.Pair.{Pair}
-use Rattle.messages.specs.declared.Taken.{Taken}
-use Rattle.messages.specs.declared.Taken.TheVariants.{Command}
 use Rattle.messages.specs.Parameters.{Row, table, row_of}
-use Rattle.messages.specs.Messages.{is_own, wrong_length, taken_as, arguments_of, registers_of}
+use Rattle.messages.specs.Messages.{Taken, Command, is_own, wrong_length, taken_as, arguments_of, registers_of}
 use Rattle.messages.proofs.Passing.{each_taken}
 use Rattle.messages.proofs.Rows.{◌&◌, each_row}
 use Rattle.mailbox.specs.Mediator.{mediate}

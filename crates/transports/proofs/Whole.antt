@@ -17,8 +17,7 @@ use Rattle.session.specs.Marks.{dirty}
 use Rattle.session.specs.Record.{with_version}
 use Rattle.soundness.specs.Soundness.{sound_in}
 use Rattle.soundness.proofs.Facts.{measured}
-use Rattle.refusals.specs.declared.Reason.TheVariants.{Accepted}
-use Rattle.refusals.specs.Refusals.{flush_marks}
+use Rattle.refusals.specs.Refusals.{Accepted, flush_marks}
 use Rattle.refusals.proofs.Accepting.{Passed, passed}
 use Rattle.registers.specs.Registers.{command_of, argument}
 use Rattle.messages.specs.Parameters.{table, row_of}
