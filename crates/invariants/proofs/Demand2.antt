@@ -35,13 +35,13 @@ use Rattle.invariants.proofs.Kept.{flush_sound}
 pub argument_late : (t : Bool) (s : Session) (registers : List ℕ) (known : Bool) (needs : Needs) (broken : Bool)
     → reason_for t s registers known needs broken ≡ Err Argument → (t ≡ true) × (known ≡ true)
 unfolding reason_for
-argument_late false s registers known needs broken e = let z : ◌≡◌ {A = ℕ} 0 1 = cc in absurd (omega arith)
+argument_late false s registers known needs broken e = cc
 argument_late true s registers true needs broken e = (refl, refl)
 argument_late true s registers false needs broken e = absurd (repeats (needs_number needs && is_previous s.previous (sequence_of registers)) e)
   where
     repeats : (b : Bool) → cond {A = Checked} b (Err Repeated) (Err Unknown) ≡ Err Argument → ⊥
-    repeats true q = let z : ◌≡◌ {A = ℕ} 0 1 = cc in omega arith
-    repeats false q = let z : ◌≡◌ {A = ℕ} 0 1 = cc in omega arith
+    repeats true q = cc
+    repeats false q = cc
 
 -- ---- what holds of nothing done, of the flush of a window that is closed and of that of a FLUSH, holds of what every command makes of the flash
 module _ (setup : Setup) (s : Session) (registers flash worn memory : List ℕ) (Q : Option Session → List ℕ → ℕ → Type 0) (nothing : Q None flash 0)
@@ -66,7 +66,7 @@ module _ (setup : Setup) (s : Session) (registers flash worn memory : List ℕ) 
       closes (measured setup (length flash) (length worn) (length memory) s (passed (sound_in setup (lent s flash worn memory)) s registers known needs broken a).sounds).sound
 
   no_system : Accepted ≡ Err System → ⊥
-  no_system q = let z : ◌≡◌ {A = ℕ} 0 1 = cc in omega arith
+  no_system q = cc
 
   served_flush : Served flush.code flush
   unfolding command_at

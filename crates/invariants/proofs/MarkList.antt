@@ -208,7 +208,7 @@ module _ (setup : Setup) (registers : List ℕ) (m : Machine) (is : command_of r
 
 -- the place of a pair that is named comes from where the places are counted
 first_least : (size place first : ℕ) (pairs : List Pair) → first_outside size place pairs ≡ Err (Outside first) → place ≤ first
-first_least size place first [] e = absurd (let z : ◌≡◌ {A = ℕ} 0 1 = cc in omega arith)
+first_least size place first [] e = cc
 first_least size place first (pair ∷ pairs) e =
     ⊎_elim
     (λ (t : leb (pair.block + pair.count) size ≡ true).
@@ -242,7 +242,7 @@ module _ (setup : Setup) where
   -- the first pair that does not: its command is the first that fails
   outside_fails : (pairs : List Pair) (sent : List (List ℕ)) (m : Machine) (place first : ℕ) → Ready setup m → Single pairs sent → NeverRepeat m.session.previous sent
       → first_outside m.session.size place pairs ≡ Err (Outside first) → FailAt (first - place) setup sent m
-  outside_fails [] sent m place first r single new e = absurd (let z : ◌≡◌ {A = ℕ} 0 1 = cc in omega arith)
+  outside_fails [] sent m place first r single new e = cc
   outside_fails (pair ∷ pairs) [] m place first r single new e = absurd single
   outside_fails (pair ∷ pairs) (registers ∷ sent) m place first r single new e =
       ⊎_elim

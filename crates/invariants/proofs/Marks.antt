@@ -60,7 +60,7 @@ module _ (s : Session) (registers marks : List ℕ) (mark block : ℕ) (fits : (
 
 module _ (setup : Setup) (registers : List ℕ) (m : Machine) (long : length m.session.marks ≡ 64) (a : reason_in setup registers m ≡ Accepted) where
   few : m.session.size ≤ 64
-  few = (call_fits setup m (sounds_unless setup registers m (λ q. let z : ◌≡◌ {A = ℕ} 0 1 = cc in omega arith))).few
+  few = (call_fits setup m (sounds_unless setup registers m (λ q. cc))).few
 
   fits : (known : Bool) → reason_for (sound_in setup m) m.session registers known WriteWindow (not (blocks_named m.session registers).inside) ≡ Accepted
       → (blocks_named m.session registers).start + (blocks_named m.session registers).count ≤ length m.session.marks

@@ -240,7 +240,7 @@ module _ (setup : Setup) (registers : List ℕ) (m : Machine) where
 flush_carries : (setup : Setup) (registers : List ℕ) (m : Machine) → (response setup registers m ≡ 3 → ⊥) → reason_in setup registers m ≡ Accepted
     → command_of registers ≡ 8 → (flushing m.session registers).marks ≡ m.session.marks → Tells setup registers m
 flush_carries setup registers m other-code a c same =
-    let fine = other setup registers m (λ q. let z : ◌≡◌ {A = ℕ} 0 1 = cc in omega arith) a in
+    let fine = other setup registers m (λ q. cc) a in
     let f = flush_through setup registers m c a other-code in
     told setup registers m fine (f.1 ∙ flushed setup registers m fine c a same f.0)
 
@@ -249,11 +249,11 @@ pending_carried setup registers m other-code = (
   flush_carries setup registers m other-code,
   λ a c none. flush_carries setup registers m other-code a c (adds_none setup registers m none),
   λ a f.
-      let fine = other setup registers m (λ q. let z : ◌≡◌ {A = ℕ} 0 1 = cc in omega arith) a in
+      let fine = other setup registers m (λ q. cc) a in
       let t = subst (Through setup registers m (numbered_in registers m)) (sym (carried setup registers m (command_of registers) refl a)) (closing setup registers m (command_of registers) (sound_in setup m) a f) other-code in
       told setup registers m fine (t.1 ∙ whole setup registers m fine t.0),
   λ a c.
-      let fine = other setup registers m (λ q. let z : ◌≡◌ {A = ℕ} 0 1 = cc in omega arith) a in
+      let fine = other setup registers m (λ q. cc) a in
       let left = (refusals_as_said setup registers m).1 c a in
       told setup registers m fine
       (ap (λ (o : Outcome). o.actions) left ∙ whole setup registers m fine (unless (flush_whole (numbered_in registers m)).failed (λ q. other-code (ap code_of left ∙ q)))),

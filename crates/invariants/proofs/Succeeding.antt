@@ -54,9 +54,4 @@ module _ (setup : Setup) (s : Session) (registers flash worn memory : List ℕ) 
 
       go : (r : Checked) → reason_in setup registers (lent s flash worn memory) ≡ r → reason_in setup registers (lent s flash worn memory) ≡ Accepted
       go Accepted e = e
-      go (Err System) e = absurd (no (Err System) e (λ q. let z : ◌≡◌ {A = ℕ} 0 1 = cc in omega arith))
-      go (Err Repeated) e = absurd (no (Err Repeated) e (λ q. let z : ◌≡◌ {A = ℕ} 0 1 = cc in omega arith))
-      go (Err Unknown) e = absurd (no (Err Unknown) e (λ q. let z : ◌≡◌ {A = ℕ} 0 1 = cc in omega arith))
-      go (Err Suspended) e = absurd (no (Err Suspended) e (λ q. let z : ◌≡◌ {A = ℕ} 0 1 = cc in omega arith))
-      go (Err Windowless) e = absurd (no (Err Windowless) e (λ q. let z : ◌≡◌ {A = ℕ} 0 1 = cc in omega arith))
-      go (Err Argument) e = absurd (no (Err Argument) e (λ q. let z : ◌≡◌ {A = ℕ} 0 1 = cc in omega arith))
+      go (Err why) e = absurd (no (Err why) e (λ q. cc))

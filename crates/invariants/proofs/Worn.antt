@@ -150,7 +150,7 @@ module _ (setup : Setup) (registers : List ℕ) (m : Machine) where
 
   module _ (c : command_of registers ≡ 8) (a : reason_in setup registers m ≡ Accepted) where
     adding_sound : sound (length m.flash) (length m.worn) (length m.memory) adding ≡ true
-    adding_sound = (flush_sound setup registers m (λ q. let z : ◌≡◌ {A = ℕ} 0 1 = cc (sym a ∙ q) in omega arith)).1 c a
+    adding_sound = (flush_sound setup registers m (λ q. cc)).1 c a
 
     flush_fails_lem : (flush_whole (holding adding m)).failed ≡ failing m.worn (Some (flushing s registers))
     flush_fails_lem = fails_is adding m.flash m.worn m.memory adding_sound ∙ added_meets (flush_marks s registers)
@@ -162,7 +162,7 @@ module _ (setup : Setup) (registers : List ℕ) (m : Machine) where
       → Either (failing m.worn (flushed_by n s registers)) (c.leaves setup registers next)
 
   accepted_fine : reason_in setup registers m ≡ Accepted → reason_in setup registers m ≡ Err System → ⊥
-  accepted_fine a q = let z : ◌≡◌ {A = ℕ} 0 1 = cc (sym a ∙ q) in omega arith
+  accepted_fine a q = cc
 
   served_create : (w : Window) → reason_in setup registers m ≡ Accepted → Either (failing m.worn (at_close s)) (created w setup registers next)
   served_create w a =
@@ -238,7 +238,7 @@ module _ (setup : Setup) (registers : List ℕ) (m : Machine) where
   answered (Err Unknown) a = not_three false (refused 2 registers next) refl two_three
   answered (Err Suspended) a = not_three false (refused (code_for s.version (Err Suspended)) registers next) refl (neither 5 6 (λ q. omega arith) (λ q. omega arith) (ltb s.version 2))
   answered (Err Windowless) a = not_three false (refused (code_for s.version (Err Windowless)) registers next) refl (neither 2 7 (λ q. omega arith) (λ q. omega arith) (ltb s.version 2))
-  answered (Err Argument) a = broken_exactly (λ q. let z : ◌≡◌ {A = ℕ} 0 1 = cc (sym a ∙ q) in omega arith) (command_of registers) a
+  answered (Err Argument) a = broken_exactly (λ q. cc) (command_of registers) a
 
 pub write_error_exactly : WriteErrorExactly
 unfolding mediate obeyed answer_to
@@ -387,7 +387,7 @@ pub refused_create_as_said : RefusedCreateAsSaid
 refused_create_as_said setup registers m c a =
     let left = (refusals_as_said setup registers m).1 c a in
     let code : ◌≡◌ {A = ℕ} (cond (flush_whole (numbered_in registers m)).failed 3 2) (cond (failing m.worn (at_close m.session)) 3 2) =
-    ap (λ (b : Bool). cond b 3 2) (close_fails setup registers m (λ q. let z : ◌≡◌ {A = ℕ} 0 1 = cc (sym a ∙ q) in omega arith)) in
+    ap (λ (b : Bool). cond b 3 2) (close_fails setup registers m (λ q. cc)) in
     let is = left ∙ ap (λ (n : ℕ). closing n registers (numbered_in registers m)) code in
     record {
       shown = ap (λ (o : Outcome). o.registers) is;

@@ -121,7 +121,7 @@ module _ (setup : Setup) (registers flash worn memory : List ℕ) (ok : response
   pub info_sound : sound_in setup (begun flash worn memory) ≡ true
   info_sound =
       sounds_unless setup registers (begun flash worn memory)
-      (λ q. let z : ◌≡◌ {A = ℕ} 0 1 = cc (sym (accepted setup fresh registers flash worn memory ok) ∙ q) in omega arith)
+      (λ q. cc)
 
   pub info_leaves : command_of registers ≡ get_info.code
       → sent setup registers (begun flash worn memory)
