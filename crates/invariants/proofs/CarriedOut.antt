@@ -1,16 +1,7 @@
 -- The flush of a sound session's window carries out its marks: every byte of the flash, and the number of actions.
-use mathlib.Core.Path.{◌≡◌, refl, sym, ap, subst, ◌∙◌}
-use mathlib.Core.Bool.{true, false, cond, true≢false}
-use mathlib.Core.List.{List, []}
-use mathlib.Core.Logic.{◌⊎◌, inl, inr, ⊎_elim}
-use Prim.Native.Nat.{ℕ, ◌+◌, ◌-◌, ◌/◌, ◌≤◌, ◌<◌}
-use native.Mathlib.Nat.{mod-eq_of_lt}
-use native.Mathlib.Omega.{arith}
-use lib.Bits.{bit_and, and_comm, and_mask}
-use lib.Dec.{eqb}
-use lib.ListN.{length, get_or}
-use borrow.Author.Tests.{le-leb, lt-leb, lt-ltb, le-ltb, eqb-true}
-use Rattle.std.specs.Prelude.{None, Some}
+use Rattle.std.proofs.Common.{◌≡◌, refl, sym, ap, subst, ◌∙◌, true, false, cond, true≢false, List, [], ◌⊎◌, inl, inr, ⊎_elim, ℕ, ◌+◌, ◌-◌, ◌/◌, ◌≤◌, ◌<◌, mod-eq_of_lt, arith, bit_and, eqb, length, get_or, le-leb, lt-ltb, le-ltb, eqb-true, None, Some}
+use lib.Bits.{and_comm, and_mask}
+use borrow.Author.Tests.{lt-leb}
 use Rattle.units.proofs.Cases.{decided, below_or, chosen}
 use Rattle.units.specs.Units.{to_bytes, round_up}
 use Rattle.buffers.proofs.Replace.{range_at}

@@ -1,14 +1,6 @@
 -- What a command makes of the event byte: the claims stand in specs/Events.antt.
-use mathlib.Core.Path.{◌≡◌, refl, ap, ◌∙◌}
-use mathlib.Core.Bool.{true, false, cond}
-use mathlib.Core.List.{List, [], ◌∷◌, ◌++◌}
-use Prim.Native.Nat.{ℕ, ◌+◌, min}
-use native.Mathlib.Omega.{arith}
-use lib.Bits.{bit_and}
-use lib.Dec.{ltb}
-use lib.ListN.{length, get_or, length-append, length-take, length-replicate}
-use lib.Seq.{get_or-append-add}
-use mathlib.Core.Logic.{⊎_elim}
+use Rattle.std.proofs.Common.{◌≡◌, refl, ap, ◌∙◌, true, false, cond, List, [], ◌∷◌, ◌++◌, ℕ, ◌+◌, min, arith, bit_and, ltb, length, get_or, length-append, length-take, get_or-append-add, ⊎_elim}
+use lib.ListN.{length-replicate}
 use Rattle.units.proofs.Cases.{decided, chosen}
 use Rattle.units.specs.Units.{block_bytes, to_bytes, round_up}
 use Rattle.session.specs.declared.Session.{Session}

@@ -1,14 +1,6 @@
 -- What every command makes of the window and of the marks: the claims stand in specs/Marks.antt.
-use mathlib.Core.Path.{◌≡◌, refl, sym, ap, ◌∙◌, subst}
-use mathlib.Core.Bool.{Bool, true, false, cond, not, ◌&&◌, ◌||◌, true≢false}
-use mathlib.Core.List.{List}
-use mathlib.Core.Logic.{⊎_elim}
-use Prim.Native.Nat.{ℕ, ◌+◌, ◌-◌, ◌≤◌}
-use native.Mathlib.Nat.{le_trans}
-use native.Mathlib.Omega.{arith}
-use lib.Dec.{leb, ltb, eqb}
-use lib.ListN.{length, get_or, replicate}
-use borrow.Author.Tests.{not-false, eqb-true}
+use Rattle.std.proofs.Common.{◌≡◌, refl, sym, ap, ◌∙◌, subst, Bool, true, false, cond, not, ◌&&◌, ◌||◌, true≢false, List, ⊎_elim, ℕ, ◌+◌, ◌-◌, ◌≤◌, le_trans, arith, leb, ltb, eqb, length, get_or, replicate, eqb-true}
+use borrow.Author.Tests.{not-false}
 use Rattle.units.specs.Units.{round_up}
 use Rattle.units.proofs.Cases.{decided}
 use Rattle.buffers.specs.Ranges.{replace}

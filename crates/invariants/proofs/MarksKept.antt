@@ -1,13 +1,6 @@
 -- Marks stay sound where some blocks of the window get one that is sound, and where the first or the last of them are left out.
-use mathlib.Core.Path.{◌≡◌, refl, sym, ap, ◌∙◌}
-use mathlib.Core.Bool.{true}
-use mathlib.Core.List.{List, [], ◌∷◌, ◌++◌, append-nil}
-use Prim.Native.Nat.{ℕ, zero, suc, ◌+◌, ◌≤◌}
-use native.Mathlib.Omega.{arith}
-use native.Mathlib.Nat.{not-suc-le-zero, le_of_suc-le-suc}
-use lib.Dec.{leb}
-use lib.ListN.{take, drop, replicate, length-replicate}
-use lib.Seq.{drop-drop}
+use Rattle.std.proofs.Common.{◌≡◌, refl, sym, ap, ◌∙◌, true, List, [], ◌∷◌, ◌++◌, append-nil, ℕ, zero, suc, ◌+◌, ◌≤◌, arith, not-suc-le-zero, le_of_suc-le-suc, leb, take, drop, replicate, drop-drop}
+use lib.ListN.{length-replicate}
 use Rattle.units.proofs.Cases.{both}
 use Rattle.buffers.specs.Ranges.{replace}
 use Rattle.session.specs.Marks.{dirty}

@@ -1,7 +1,5 @@
 -- What every command makes of the window memory: the claim stands in specs/Memory.antt.
-use mathlib.Core.Path.{◌≡◌, refl}
-use mathlib.Core.List.{List}
-use Prim.Native.Nat.{ℕ}
+use Rattle.std.proofs.Common.{◌≡◌, refl, List, ℕ}
 use Rattle.session.specs.Machine.{Setup, Machine, holding}
 use Rattle.registers.specs.Registers.{command_of}
 use Rattle.mailbox.specs.Commands.{Outcome, numbered, numbered_in, flushing}

@@ -1,15 +1,6 @@
 -- The recovery of specs/Recipe.antt is a second run, whatever the session and the cut: `recovers`.
-use mathlib.Core.Path.{◌≡◌, refl, sym, ap, ◌∙◌, subst}
-use mathlib.Core.Bool.{true}
-use mathlib.Core.List.{List, [], ◌∷◌, ◌++◌, append-nil}
-use mathlib.Core.Logic.{inl, inr, ⊎_elim}
-use Prim.Native.Nat.{ℕ, suc, ◌+◌, ◌-◌, ◌/◌, ◌≤◌, ◌<◌}
-use native.Mathlib.Omega.{arith}
-use lib.Dec.{leb, eqb}
-use lib.ListN.{length, get_or, take, drop, replicate}
-use lib.Seq.{drop-cons, take_all}
-use borrow.Author.Tests.{leb-true, eqb-true, eqb-false}
-use Rattle.std.specs.Prelude.{Some}
+use Rattle.std.proofs.Common.{◌≡◌, refl, sym, ap, ◌∙◌, subst, true, List, [], ◌∷◌, ◌++◌, append-nil, inl, inr, ⊎_elim, ℕ, suc, ◌+◌, ◌-◌, ◌/◌, ◌≤◌, ◌<◌, arith, leb, eqb, length, get_or, take, drop, replicate, drop-cons, take_all, leb-true, eqb-true, Some}
+use borrow.Author.Tests.{eqb-false}
 use Rattle.units.specs.Units.{block_bytes, to_bytes, round_up}
 use Rattle.units.proofs.Cases.{both, chosen, below_or}
 use Rattle.buffers.specs.Ranges.{replace}

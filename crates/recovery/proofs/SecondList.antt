@@ -1,13 +1,5 @@
 -- The second run: what each of its calls leaves.
-use mathlib.Core.Path.{◌≡◌, refl, sym, ap, ◌∙◌, subst}
-use mathlib.Core.Bool.{Bool, true, false, cond, true≢false}
-use mathlib.Core.List.{List, [], ◌∷◌}
-use mathlib.Core.Logic.{◌⊎◌, ⊎_elim}
-use Prim.Native.Nat.{ℕ, ◌≤◌, min}
-use native.Mathlib.Omega.{arith}
-use lib.ListN.{length, get_or}
-use borrow.Author.Tests.{leb-true}
-use Rattle.std.specs.Prelude.{Err}
+use Rattle.std.proofs.Common.{◌≡◌, refl, sym, ap, ◌∙◌, subst, Bool, true, false, cond, true≢false, List, [], ◌∷◌, ◌⊎◌, ⊎_elim, ℕ, ◌≤◌, min, length, get_or, leb-true, Err}
 use Rattle.units.specs.Units.{to_bytes, round_up}
 use Rattle.units.proofs.Cases.{decided, both}
 use Rattle.chip.specs.Actions.{erased}
@@ -121,7 +113,7 @@ module _ (setup : Setup) (registers flash worn memory : List ℕ) (ok : response
   pub info_sound : sound_in setup (begun flash worn memory) ≡ true
   info_sound =
       sounds_unless setup registers (begun flash worn memory)
-      (λ q. cc)
+      (λ q. cc (sym (accepted setup fresh registers flash worn memory ok) ∙ q))
 
   pub info_leaves : command_of registers ≡ get_info.code
       → sent setup registers (begun flash worn memory)

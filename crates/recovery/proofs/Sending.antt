@@ -1,14 +1,8 @@
 -- Commands of version 2 that are accepted: what each needs of the machine that it is sent to, and the machine that it leaves. Of the recipe's
 -- proof this file alone opens the mediator and the table of refusals.
-use mathlib.Core.Path.{◌≡◌, refl, sym, ap, subst, ◌∙◌}
-use mathlib.Core.Bool.{Bool, true, false, cond, not, ◌&&◌, and-false, true≢false}
-use mathlib.Core.List.{List, [], ◌∷◌}
-use Prim.Native.Nat.{ℕ, ◌+◌, ◌*◌, ◌/◌, ◌%◌, ◌≤◌, ◌<◌}
-use native.Mathlib.Omega.{arith}
-use lib.Dec.{ltb, eqb}
-use lib.ListN.{length, get_or, replicate}
-use borrow.Author.Tests.{le-leb, lt-leb, ne_eqb}
-use Rattle.std.specs.Prelude.{Option, Some}
+use Rattle.std.proofs.Common.{◌≡◌, refl, sym, ap, subst, ◌∙◌, Bool, true, false, cond, not, ◌&&◌, true≢false, List, [], ◌∷◌, ℕ, ◌+◌, ◌*◌, ◌/◌, ◌%◌, ◌≤◌, ◌<◌, arith, ltb, eqb, length, get_or, replicate, le-leb, ne_eqb, Option, Some}
+use mathlib.Core.Bool.{and-false}
+use borrow.Author.Tests.{lt-leb}
 use Rattle.units.specs.Units.{block_bytes, to_bytes, round_up}
 use Rattle.buffers.specs.Ranges.{replace}
 use Rattle.chip.specs.Actions.{erased}

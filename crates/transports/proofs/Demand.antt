@@ -1,11 +1,5 @@
 -- Demand 3 with commands by message: a second run with messages is one of mailbox commands. The claim stands in specs/Demand.antt.
-use mathlib.Core.Path.{◌≡◌, refl, sym, ap, subst, ◌∙◌}
-use mathlib.Core.Bool.{true, false}
-use mathlib.Core.List.{List, [], ◌∷◌}
-use mathlib.Core.Logic.{◌⊎◌}
-use Prim.Native.Nat.{ℕ, ◌≤◌}
-use lib.ListN.{length, get_or}
-use Rattle.std.specs.Prelude.{Err}
+use Rattle.std.proofs.Common.{◌≡◌, refl, sym, ap, subst, ◌∙◌, true, false, List, [], ◌∷◌, ◌⊎◌, ℕ, ◌≤◌, length, get_or, Err}
 use Rattle.units.specs.Units.{block_holding}
 use Rattle.session.specs.declared.Session.{Session}
 use Rattle.session.specs.Events.{control_lost, clear_bits}

@@ -1,12 +1,6 @@
 -- The mediator looks at the command, its number and its own parameters alone: what it leaves has nothing of the other arguments and of registers 13 to 15,
 -- but for register 14, which it hands back.
-use mathlib.Core.Path.{◌≡◌, refl, sym, ap, ◌∙◌}
-use mathlib.Core.Bool.{Bool, true, false, cond}
-use mathlib.Core.List.{List, [], ◌∷◌, ◌++◌}
-use Rattle.std.specs.Prelude.{Err, Option, None, Some}
-use Prim.Native.Nat.{ℕ, min}
-use lib.Dec.{ltb}
-use lib.ListN.{length, get_or, replicate}
+use Rattle.std.proofs.Common.{◌≡◌, refl, sym, ap, ◌∙◌, Bool, true, false, cond, List, [], ◌∷◌, ◌++◌, Err, Option, None, Some, ℕ, min, ltb, length, get_or, replicate}
 use Rattle.units.specs.Units.{block_bytes, to_bytes, round_up}
 use Rattle.buffers.specs.Ranges.{range, replace}
 use Rattle.session.specs.declared.Window.{Window}

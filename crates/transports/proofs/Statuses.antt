@@ -1,13 +1,6 @@
 -- The status of a command is the code of its reason or WRITE_ERROR, and what the completion code of a message tells of it.
-use mathlib.Core.Path.{◌≡◌, refl, sym, ap, subst, ◌∙◌}
-use mathlib.Core.Bool.{Bool, true, false, cond, false≢true}
-use mathlib.Core.List.{List, ◌∷◌, ◌++◌}
-use Prim.Native.Nat.{ℕ, ◌≤◌, min}
-use native.Mathlib.Omega.{arith}
-use lib.Dec.{eqb, ltb, lit≤}
-use lib.ListN.{length, get_or}
-use borrow.Author.Tests.{eqb-true, eq-eqb}
-use Rattle.std.specs.Prelude.{Err}
+use Rattle.std.proofs.Common.{◌≡◌, refl, sym, ap, subst, ◌∙◌, Bool, true, false, cond, List, ◌∷◌, ◌++◌, ℕ, ◌≤◌, min, arith, eqb, ltb, lit≤, length, get_or, eqb-true, eq-eqb, Err}
+use mathlib.Core.Bool.{false≢true}
 use Rattle.units.specs.Units.{block_bytes, to_bytes, round_up}
 use Rattle.units.proofs.Cases.{chosen}
 use Rattle.session.specs.declared.Window.{Window}
