@@ -1,7 +1,8 @@
 -- What a command makes of the event byte: the claims stand in specs/Events.antt.
-use Rattle.std.proofs.Common.{◌≡◌, refl, ap, ◌∙◌, true, false, cond, List, [], ◌∷◌, ◌++◌, ℕ, ◌+◌, min, arith, bit_and, ltb, length, get_or, length-append, length-take, get_or-append-add, ⊎_elim}
+use Rattle.std.proofs.Common.{◌≡◌, refl, ap, ◌∙◌, true, false, cond, List, [], ◌∷◌, ◌++◌, ℕ, ◌+◌, min, arith, bit_and, ltb, length, get_or, length-append, length-take, get_or-append-add}
+use Rattle.std.proofs.lemmas.Bool.{false_from_ne_true}
 use lib.ListN.{length-replicate}
-use Rattle.units.proofs.Cases.{decided, chosen}
+use Rattle.units.proofs.Cases.{chosen}
 use Rattle.units.specs.Units.{block_bytes, to_bytes, round_up}
 use Rattle.session.specs.declared.Session.{Session}
 use Rattle.session.specs.declared.Window.{Window}
@@ -142,10 +143,8 @@ events_shown setup registers m =
 -- ---- a disagreement is never sound
 disagreeing : (flash worn memory : ℕ) (s : Session) → (is_set 0x40 s.events ≡ s.suspended → ⊥) → sound flash worn memory s ≡ false
 disagreeing flash worn memory s apart =
-    ⊎_elim
-    (λ (e : sound flash worn memory s ≡ true). absurd (apart (told s.suspended s.events (fitting _ _ s (sizes flash worn memory s e).2).access)))
-    (λ (e : sound flash worn memory s ≡ false). e)
-    (decided (sound flash worn memory s))
+    false_from_ne_true (sound flash worn memory s)
+    (λ e. apart (told s.suspended s.events (fitting _ _ s (sizes flash worn memory s e).2).access))
 
 pub disagreeing_refused : DisagreeingRefused
 unfolding sound_at reason_for answer_for listed advanced

@@ -1,5 +1,6 @@
 -- A sound session stays sound: the claims stand in specs/Kept.antt.
 use Rattle.std.proofs.Common.{◌≡◌, refl, sym, ap, ◌∙◌, Bool, true, false, not, ◌&&◌, List, ⊎_elim, ℕ, ◌+◌, ◌*◌, ◌≤◌, ◌<◌, min, arith, leb, eqb, length, le-leb, leb-false, eq-eqb, Err}
+use Rattle.std.proofs.lemmas.Bool.{true_from_ne_false}
 use mathlib.Core.Bool.{false≢true}
 use borrow.Author.Tests.{eqb-false, not-false}
 use Rattle.units.proofs.Cases.{decided, chosen}
@@ -228,7 +229,7 @@ fresh_as_said setup S C s t c d b =
 pub sounds_unless : (setup : Setup) (registers : List ℕ) (m : Machine) → (reason_in setup registers m ≡ Err System → ⊥) → sound_in setup m ≡ true
 unfolding reason_for
 sounds_unless setup registers m fine =
-    ⊎_elim (λ (e : sound_in setup m ≡ true). e) (λ (e : sound_in setup m ≡ false). absurd (fine (rw e))) (decided (sound_in setup m))
+    true_from_ne_false (sound_in setup m) (λ e. fine (rw e))
 
 pub flush_sound : FlushSound
 unfolding command_at

@@ -1,5 +1,6 @@
 -- The kept numbers and the question: the claims stand in specs/Pending.antt.
 use Rattle.std.proofs.Common.{◌≡◌, refl, sym, ap, ◌∙◌, subst, Bool, true, false, cond, not, ◌&&◌, ◌||◌, List, [], ◌∷◌, ◌⊎◌, ⊎_elim, ℕ, zero, suc, ◌+◌, ◌*◌, ◌≤◌, arith, leb, ltb, eqb, length, leb-true, Err}
+use Rattle.std.proofs.lemmas.Bool.{false_from_ne_true}
 use mathlib.Core.Bool.{false≢true, and-false}
 use Rattle.units.proofs.Cases.{both}
 use Rattle.session.specs.declared.Counts.{Counts}
@@ -248,9 +249,6 @@ pending_carried setup registers m other-code = (
       let fine = other setup registers m (λ q. cc) a in
       let left = (refusals_as_said setup registers m).1 c a in
       told setup registers m fine
-      (ap (λ (o : Outcome). o.actions) left ∙ whole setup registers m fine (unless (flush_whole (numbered_in registers m)).failed (λ q. other-code (ap code_of left ∙ q)))),
+      (ap (λ (o : Outcome). o.actions) left ∙ whole setup registers m fine (false_from_ne_true (flush_whole (numbered_in registers m)).failed
+      (λ t. other-code (ap code_of left ∙ ap (λ (b : Bool). cond b 3 2) t)))),
 )
-  where
-    unless : (t : Bool) → (◌≡◌ {A = ℕ} (cond t 3 2) 3 → ⊥) → t ≡ false
-    unless true n = absurd (n refl)
-    unless false n = refl

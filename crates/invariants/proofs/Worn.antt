@@ -1,6 +1,7 @@
 -- Worn blocks: the claims stand in specs/Worn.antt.
 use Rattle.std.proofs.Common.{◌≡◌, refl, sym, ap, subst, ◌∙◌, Bool, true, false, cond, not, ◌&&◌, ◌||◌, true≢false, List, [], ◌∷◌, ◌++◌, ◌⊎◌, inl, inr, ⊎_elim, ℕ, zero, suc, ◌+◌, ◌≤◌, ◌<◌, min, arith, ltb, eqb, length, get_or, take, drop, replicate, drop_of_length-le, lt-ltb, le-ltb, Option, None, Some, Err}
 use mathlib.Core.Bool.{false≢true, and-false}
+use Rattle.std.proofs.lemmas.Bool.{false_from_ne_true, true_from_ne_false}
 use lib.ListN.{length-replicate}
 use Rattle.units.specs.Units.{block_bytes, to_bytes, round_up}
 use Rattle.buffers.specs.Ranges.{range}
@@ -42,14 +43,13 @@ use Rattle.invariants.proofs.Kept.{flush_sound}
 use Rattle.invariants.proofs.MarksKept.{cleared_sound}
 use Rattle.invariants.proofs.Marks.{create_either, one_three, three_one}
 use Rattle.invariants.proofs.Refused.{refusals_as_said}
-use Rattle.invariants.proofs.Succeeding.{accepted}
+use Rattle.invariants.proofs.Succeeding.{neither, accepted}
 use Rattle.invariants.proofs.Reach.{kept_is, meets_is, zeros_at, none_failed}
 
 -- ---- the map
 unmapped : (flash worn memory : ℕ) (s : Session) → (worn ≡ round_up flash → ⊥) → sound flash worn memory s ≡ false
 unmapped flash worn memory s apart =
-    ⊎_elim (λ (e : sound flash worn memory s ≡ true). absurd (apart (sizes flash worn memory s e).3)) (λ (e : sound flash worn memory s ≡ false). e)
-    (decided (sound flash worn memory s))
+    false_from_ne_true (sound flash worn memory s) (λ e. apart (sizes flash worn memory s e).3)
 
 pub map_refused : MapRefused
 unfolding sound_at reason_for answer_for listed advanced
@@ -112,10 +112,6 @@ two_three q = omega arith
 
 four_three : ◌≡◌ {A = ℕ} 4 3 → ⊥
 four_three q = omega arith
-
-neither : (a b : ℕ) → (a ≡ 3 → ⊥) → (b ≡ 3 → ⊥) → (t : Bool) → cond t a b ≡ 3 → ⊥
-neither a b p q true e = p e
-neither a b p q false e = q e
 
 module _ (setup : Setup) (registers : List ℕ) (m : Machine) where
   abbrev s : Session
@@ -227,10 +223,10 @@ module _ (setup : Setup) (registers : List ℕ) (m : Machine) where
   unfolding answer_to
   answered Accepted a = exactly (failing m.worn (flushed_for Accepted s registers)) ((command_in registers).leaves setup registers next) (served_exactly (command_of registers) refl a a)
   answered (Err System) a = not_three false (refused 4 registers m) refl four_three
-  answered (Err Repeated) a = not_three false (refused (code_for s.version (Err Repeated)) registers next) refl (neither 2 8 (λ q. omega arith) (λ q. omega arith) (ltb s.version 2))
+  answered (Err Repeated) a = not_three false (refused (code_for s.version (Err Repeated)) registers next) refl (neither 3 2 8 (λ q. omega arith) (λ q. omega arith) (ltb s.version 2))
   answered (Err Unknown) a = not_three false (refused 2 registers next) refl two_three
-  answered (Err Suspended) a = not_three false (refused (code_for s.version (Err Suspended)) registers next) refl (neither 5 6 (λ q. omega arith) (λ q. omega arith) (ltb s.version 2))
-  answered (Err Windowless) a = not_three false (refused (code_for s.version (Err Windowless)) registers next) refl (neither 2 7 (λ q. omega arith) (λ q. omega arith) (ltb s.version 2))
+  answered (Err Suspended) a = not_three false (refused (code_for s.version (Err Suspended)) registers next) refl (neither 3 5 6 (λ q. omega arith) (λ q. omega arith) (ltb s.version 2))
+  answered (Err Windowless) a = not_three false (refused (code_for s.version (Err Windowless)) registers next) refl (neither 3 2 7 (λ q. omega arith) (λ q. omega arith) (ltb s.version 2))
   answered (Err Argument) a = broken_exactly (λ q. cc) (command_of registers) a
 
 pub write_error_exactly : WriteErrorExactly
@@ -262,10 +258,8 @@ module _ (setup : Setup) (registers : List ℕ) (m : Machine) (three : response 
   -- it does
   does : failing m.worn (flushed_for (reason_in setup registers m) m.session registers) ≡ true
   does =
-      ⊎_elim
-      (λ (t : failing m.worn (flushed_for (reason_in setup registers m) m.session registers) ≡ true). t)
-      (λ (f : failing m.worn (flushed_for (reason_in setup registers m) m.session registers) ≡ false). absurd ((write_error_exactly setup registers m).1 f three))
-      (decided (failing m.worn (flushed_for (reason_in setup registers m) m.session registers)))
+      true_from_ne_false (failing m.worn (flushed_for (reason_in setup registers m) m.session registers))
+      (λ f. (write_error_exactly setup registers m).1 f three)
 
   pub three_for : (reason_in setup registers m ≡ Accepted) ⊎ ((reason_in setup registers m ≡ Err Argument) × (is_create (command_of registers) ≡ true))
   three_for = failing_for m.worn (reason_in setup registers m) m.session registers does
@@ -280,11 +274,10 @@ module _ (setup : Setup) (registers : List ℕ) (m : Machine) (three : response 
   flush_left_lem c a =
       let t = holding (adding setup registers m) m in
       let left = carried setup registers m 8 c a in
-      let f = fails (λ f. sym (ap code_of (left ∙ ap (λ (b : Bool). cond b (stopped registers t) (flushed_through registers t)) f)) ∙ three) in
+      let f =
+      true_from_ne_false (flush_whole t).failed
+      (λ f. one_three (sym (ap code_of (left ∙ ap (λ (b : Bool). cond b (stopped registers t) (flushed_through registers t)) f)) ∙ three)) in
       (f, left ∙ ap (λ (b : Bool). cond b (stopped registers t) (flushed_through registers t)) f)
-    where
-      fails : {b : Bool} → (b ≡ false → ◌≡◌ {A = ℕ} 1 3) → b ≡ true
-      fails {b} n = ⊎_elim (λ t. t) (λ f. absurd (one_three (n f))) (decided b)
 
   -- and a CLOSE_WINDOW
   pub close_left : (c : command_of registers ≡ 5) (a : reason_in setup registers m ≡ Accepted)
@@ -293,11 +286,10 @@ module _ (setup : Setup) (registers : List ℕ) (m : Machine) (three : response 
   close_left c a =
       let t = numbered_in registers m in
       let left = carried setup registers m 5 c a in
-      let f = fails (λ f. sym (ap code_of (left ∙ ap (λ (b : Bool). cond b (stopped registers t) (closing 1 registers t)) f)) ∙ three) in
+      let f =
+      true_from_ne_false (flush_whole t).failed
+      (λ f. one_three (sym (ap code_of (left ∙ ap (λ (b : Bool). cond b (stopped registers t) (closing 1 registers t)) f)) ∙ three)) in
       (f, left ∙ ap (λ (b : Bool). cond b (stopped registers t) (closing 1 registers t)) f)
-    where
-      fails : {b : Bool} → (b ≡ false → ◌≡◌ {A = ℕ} 1 3) → b ≡ true
-      fails {b} n = ⊎_elim (λ t. t) (λ f. absurd (one_three (n f))) (decided b)
 
   -- and a create, also one that is refused for its argument
   pub create_left : is_create (command_of registers) ≡ true → mediate setup registers m ≡ closing 3 registers (numbered_in registers m)
