@@ -1,10 +1,6 @@
 -- The examples hold, the twelve of document 01 and the tickets' own, by computation from the definitions: in parts, since one declaration may not take so
 -- many steps.
-use Prim.Native.Nat.{ℕ, zero, suc}
-use mathlib.Core.Path.{◌≡◌, refl}
-use mathlib.Core.Bool.{Bool, true, false, ◌&&◌}
-use mathlib.Core.List.{List, [], ◌∷◌}
-use lib.ListN.{take, drop}
+use Rattle.std.proofs.Common.{ℕ, zero, suc, ◌≡◌, refl, Bool, true, false, ◌&&◌, List, [], ◌∷◌, take, drop}
 use Rattle.chip.specs.Actions.{erased, programmed}
 use Rattle.soundness.specs.Soundness.{size_sound, sizes_sound, session_sound, sound, sound_at}
 use Rattle.flush.specs.Actions.{block_actions, actions_from, flush_actions, perform, perform_all}

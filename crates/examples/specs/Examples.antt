@@ -1,6 +1,6 @@
 -- The twelve examples of document 01 as data, then those of tickets of document 02, and what it is for one to hold: its calls are made on the
 -- definitions, each on what the one before left, and what each leaves passes the checks that the papers' words ask for.
-use Rattle.std.specs.Prelude.{ℕ, zero, suc, ◌-◌, ◌≡◌, Bool, true, false, cond, ◌&&◌, List, [], ◌∷◌, ◌++◌, eqb, get_or, take, replicate}
+use Rattle.std.specs.Prelude.{Option, None, Some, ℕ, zero, suc, ◌-◌, ◌≡◌, Bool, true, false, cond, ◌&&◌, List, [], ◌∷◌, ◌++◌, eqb, get_or, take, replicate}
 use Rattle.units.specs.Units.{block_bytes}
 use Rattle.buffers.specs.Ranges.{range, replace}
 use Rattle.chip.specs.Actions.{page_bytes}
@@ -8,15 +8,12 @@ use Rattle.session.specs.declared.Window.{Window}
 use Rattle.session.specs.declared.Window.TheVariants.{Closed, Read, Write}
 use Rattle.session.specs.Machine.{Setup, set_up, Machine, lent, holding, wearing}
 use Rattle.session.specs.Record.{fresh, with_version, with_access, with_counted}
-use Rattle.session.specs.declared.suspension.Suspension.{Suspension}
-use Rattle.session.specs.Suspension.{suspended, resumed, resumed_changed}
+use Rattle.session.specs.Suspension.{Suspension, suspended, resumed, resumed_changed}
 use Rattle.soundness.specs.declared.pending_work.PendingWork.{PendingWork}
-use Rattle.soundness.specs.declared.pending_work.PendingWork.TheVariants.{Unsound, Marked}
 use Rattle.soundness.specs.Pending.{pending_in}
 use Rattle.flush.specs.Actions.{Action, program, perform}
 use Rattle.flush.specs.Window.{Advanced, advanced}
-use Rattle.marklist.specs.declared.Listed.{Listed}
-use Rattle.marklist.specs.MarkList.{list_code, names_pair, place_named, listed_in}
+use Rattle.marklist.specs.MarkList.{Listed, list_code, names_pair, place_named, listed_in}
 use Rattle.mailbox.specs.Commands.{Outcome}
 use Rattle.mailbox.specs.Mediator.{mediate}
 
@@ -237,16 +234,16 @@ abbrev pub marks : List ℕ → Check
 marks expected s = same s.machine.session.marks (padded 64 expected)
 
 -- the question is answered: so many marked blocks, and so many chip actions, or "unsound"
-abbrev pub tells : ℕ → ℕ → PendingWork → Bool
-tells blocks actions Unsound = false
-tells blocks actions (Marked b a) = eqb b blocks && eqb a actions
+abbrev pub tells : ℕ → ℕ → Option PendingWork → Bool
+tells blocks actions None = false
+tells blocks actions (Some work) = eqb work.blocks blocks && eqb work.actions actions
 
 abbrev pub pending : ℕ → ℕ → Check
 pending blocks actions s = tells blocks actions (pending_in s.machine.session)
 
-abbrev pub is_unsound : PendingWork → Bool
-is_unsound Unsound = true
-is_unsound (Marked b a) = false
+abbrev pub is_unsound : Option PendingWork → Bool
+is_unsound None = true
+is_unsound (Some work) = false
 
 abbrev pub unsound : Check
 unsound s = is_unsound (pending_in s.machine.session)

@@ -1,16 +1,7 @@
 -- The flush of a sound session's window carries out its marks: every byte of the flash, and the number of actions.
-use mathlib.Core.Path.{◌≡◌, refl, sym, ap, subst, ◌∙◌}
-use mathlib.Core.Bool.{true, false, cond, true≢false}
-use mathlib.Core.List.{List, []}
-use mathlib.Core.Logic.{◌⊎◌, inl, inr, ⊎_elim}
-use mathlib.Core.Option.{none, some}
-use Prim.Native.Nat.{ℕ, ◌+◌, ◌-◌, ◌/◌, ◌≤◌, ◌<◌}
-use native.Mathlib.Nat.{mod-eq_of_lt}
-use native.Mathlib.Omega.{arith}
-use lib.Bits.{bit_and, and_comm, and_mask}
-use lib.Dec.{eqb}
-use lib.ListN.{length, get_or}
-use borrow.Author.Tests.{le-leb, lt-leb, lt-ltb, le-ltb, eqb-true}
+use Rattle.std.proofs.Common.{◌≡◌, refl, sym, ap, subst, ◌∙◌, true, false, cond, true≢false, List, [], ◌⊎◌, inl, inr, ⊎_elim, ℕ, ◌+◌, ◌-◌, ◌/◌, ◌≤◌, ◌<◌, mod-eq_of_lt, arith, bit_and, eqb, length, get_or, le-leb, lt-ltb, le-ltb, eqb-true, None, Some}
+use lib.Bits.{and_comm, and_mask}
+use borrow.Author.Tests.{lt-leb}
 use Rattle.units.proofs.Cases.{decided, below_or, chosen}
 use Rattle.units.specs.Units.{to_bytes, round_up}
 use Rattle.buffers.proofs.Replace.{range_at}
@@ -137,10 +128,10 @@ module _ (s : Session) (flash worn memory : List ℕ) (e : sound (length flash) 
     where
       done_none : is_write s.window ≡ false → done_actions (lent s flash worn memory) ≡ []
       done_none w =
-          let none = flush_unmarked s.marks (rw (not_markable s.window s.size w) at fit.marks) in
-          ap (until_failure (window_worn s worn)) none ∙ until_all (window_worn s worn) [] (some_none (window_worn s worn))
+          let clear = flush_unmarked s.marks (rw (not_markable s.window s.size w) at fit.marks) in
+          ap (until_failure (window_worn s worn)) clear ∙ until_all (window_worn s worn) [] (some_none (window_worn s worn))
 
   pub close_leaves : Leaves (at_close s) flash worn memory (flush_whole (lent s flash worn memory)).flash (flush_whole (lent s flash worn memory)).actions
   close_leaves =
-      chosen (λ o. Leaves o flash worn memory (flush_whole (lent s flash worn memory)).flash (flush_whole (lent s flash worn memory)).actions) (is_write s.window) (some s) none
+      chosen (λ o. Leaves o flash worn memory (flush_whole (lent s flash worn memory)).flash (flush_whole (lent s flash worn memory)).actions) (is_write s.window) (Some s) None
       (λ _. carried_out) nothing

@@ -1,10 +1,7 @@
 -- The rows of the table say what document 01 says: the claim stands in specs/Codes.antt.
-use mathlib.Core.Path.{◌≡◌, refl, sym, ap, ◌∙◌}
-use mathlib.Core.Bool.{true, false, cond, not, ◌||◌, and-false}
-use Prim.Native.Nat.{ℕ, zero, suc, ◌≤◌}
-use native.Mathlib.Omega.{arith}
-use lib.Dec.{leb, eqb, lit≤}
-use borrow.Author.Tests.{ne_eqb, le-leb, lt-leb}
+use Rattle.std.proofs.Common.{◌≡◌, refl, sym, ap, ◌∙◌, true, false, cond, not, ◌||◌, ℕ, zero, suc, ◌≤◌, arith, leb, eqb, lit≤, ne_eqb, le-leb}
+use mathlib.Core.Bool.{and-false}
+use borrow.Author.Tests.{lt-leb}
 use Rattle.refusals.specs.Refusals.{never_broken, needs_number, needs_access, needs_window}
 use Rattle.mailbox.specs.Commands.{refused, closing_first}
 use Rattle.mailbox.specs.Table.{Command, unknown}

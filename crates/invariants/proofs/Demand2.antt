@@ -1,12 +1,7 @@
 -- Demand 2's last sentence: the claim stands in specs/Demand2.antt. Everything that opens the mediator for it is here; what a flush does to the
 -- flash is in CarriedOut.antt.
-use mathlib.Core.Path.{◌≡◌, refl, sym, ap, subst, ◌∙◌}
-use mathlib.Core.Bool.{Bool, true, false, cond, ◌&&◌, false≢true}
-use mathlib.Core.List.{List}
-use mathlib.Core.Option.{Option, none, some}
-use Prim.Native.Nat.{ℕ}
-use native.Mathlib.Omega.{arith}
-use lib.ListN.{length}
+use Rattle.std.proofs.Common.{◌≡◌, refl, sym, ap, subst, ◌∙◌, Bool, true, false, cond, ◌&&◌, List, ℕ, length, Option, None, Some, Err}
+use mathlib.Core.Bool.{false≢true}
 use Rattle.session.specs.declared.Session.{Session}
 use Rattle.session.specs.declared.Window.{Window}
 use Rattle.session.specs.declared.Window.TheVariants.{Read, Write}
@@ -15,12 +10,11 @@ use Rattle.soundness.specs.Soundness.{session_sound, sound, sound_in}
 use Rattle.soundness.proofs.Facts.{measured}
 use Rattle.session.specs.Marks.{dirty}
 use Rattle.flush.specs.Window.{perform_in, flush_whole}
-use Rattle.refusals.specs.declared.Reason.{Reason}
-use Rattle.refusals.specs.declared.Reason.TheVariants.{Accepted, System, Repeated, Unknown, Suspended, Windowless, Argument}
+use Rattle.refusals.specs.declared.Reason.TheVariants.{System, Repeated, Unknown, Suspended, Windowless, Argument}
 use Rattle.refusals.specs.declared.Needs.{Needs}
 use Rattle.refusals.specs.declared.Needs.TheVariants.{Access}
 use Rattle.registers.specs.Registers.{command_of, sequence_of}
-use Rattle.refusals.specs.Refusals.{flush_marks, is_previous, needs_number, code_for, reason_for}
+use Rattle.refusals.specs.Refusals.{Checked, Accepted, flush_marks, is_previous, needs_number, code_for, reason_for}
 use Rattle.refusals.proofs.Accepting.{passed}
 use Rattle.mailbox.specs.Commands.{Outcome, numbered, marked, created, flushing}
 use Rattle.mailbox.specs.Table.{Command, create, close_window, flush}
@@ -34,22 +28,22 @@ use Rattle.invariants.proofs.Kept.{flush_sound}
 
 -- a refusal for an argument comes after the check of the sizes, B and the session, and of a command that its version knows
 pub argument_late : (t : Bool) (s : Session) (registers : List ℕ) (known : Bool) (needs : Needs) (broken : Bool)
-    → reason_for t s registers known needs broken ≡ Argument → (t ≡ true) × (known ≡ true)
+    → reason_for t s registers known needs broken ≡ Err Argument → (t ≡ true) × (known ≡ true)
 unfolding reason_for
-argument_late false s registers known needs broken e = let z : ◌≡◌ {A = ℕ} 0 1 = cc in absurd (omega arith)
+argument_late false s registers known needs broken e = cc
 argument_late true s registers true needs broken e = (refl, refl)
 argument_late true s registers false needs broken e = absurd (repeats (needs_number needs && is_previous s.previous (sequence_of registers)) e)
   where
-    repeats : (b : Bool) → cond b Repeated Unknown ≡ Argument → ⊥
-    repeats true q = let z : ◌≡◌ {A = ℕ} 0 1 = cc in omega arith
-    repeats false q = let z : ◌≡◌ {A = ℕ} 0 1 = cc in omega arith
+    repeats : (b : Bool) → cond {A = Checked} b (Err Repeated) (Err Unknown) ≡ Err Argument → ⊥
+    repeats true q = cc
+    repeats false q = cc
 
 -- ---- what holds of nothing done, of the flush of a window that is closed and of that of a FLUSH, holds of what every command makes of the flash
-module _ (setup : Setup) (s : Session) (registers flash worn memory : List ℕ) (Q : Option Session → List ℕ → ℕ → Type 0) (nothing : Q none flash 0)
+module _ (setup : Setup) (s : Session) (registers flash worn memory : List ℕ) (Q : Option Session → List ℕ → ℕ → Type 0) (nothing : Q None flash 0)
     (closes : sound (length flash) (length worn) (length memory) s ≡ true
     → Q (at_close s) (flush_whole (lent (numbered s registers) flash worn memory)).flash (flush_whole (lent (numbered s registers) flash worn memory)).actions)
     (flushes : sound (length flash) (length worn) (length memory) (flushing (numbered s registers) registers) ≡ true
-    → Q (some (flushing s registers)) (flush_whole (lent (flushing (numbered s registers) registers) flash worn memory)).flash
+    → Q (Some (flushing s registers)) (flush_whole (lent (flushing (numbered s registers) registers) flash worn memory)).flash
     (flush_whole (lent (flushing (numbered s registers) registers) flash worn memory)).actions) where
   -- what is to be shown of an outcome
   abbrev Carries : Option Session → Outcome → Type 0
@@ -66,15 +60,15 @@ module _ (setup : Setup) (s : Session) (registers flash worn memory : List ℕ) 
   accepted_closes known needs broken a =
       closes (measured setup (length flash) (length worn) (length memory) s (passed (sound_in setup (lent s flash worn memory)) s registers known needs broken a).sounds).sound
 
-  no_system : Accepted ≡ System → ⊥
-  no_system q = let z : ◌≡◌ {A = ℕ} 0 1 = cc in omega arith
+  no_system : Accepted ≡ Err System → ⊥
+  no_system q = cc
 
   served_flush : Served flush.code flush
   unfolding command_at
   served_flush c a =
       let accepted = ap (λ (n : ℕ). reason_of (command_at n) (sound_in setup (lent s flash worn memory)) registers (lent s flash worn memory)) c ∙ a in
       let done = flushes ((flush_sound setup registers (lent s flash worn memory) (λ q. no_system (sym accepted ∙ q))).1 c accepted) in
-      flush_ends (Carries (some (flushing s registers))) registers (lent (flushing (numbered s registers) registers) flash worn memory) (λ _. done) (λ _. done)
+      flush_ends (Carries (Some (flushing s registers))) registers (lent (flushing (numbered s registers) registers) flash worn memory) (λ _. done) (λ _. done)
 
   served_close : Served close_window.code close_window
   served_close c a =
@@ -103,10 +97,10 @@ module _ (setup : Setup) (s : Session) (registers flash worn memory : List ℕ) 
   -- a refusal for an argument
   abbrev Broken : ℕ → Command → Type 0
   Broken n c =
-      reason_of c (sound_in setup (lent s flash worn memory)) registers (lent s flash worn memory) ≡ Argument
-      → Carries (cond (is_create n) (at_close s) none) (c.when_broken (code_for s.version Argument) registers (lent (numbered s registers) flash worn memory))
+      reason_of c (sound_in setup (lent s flash worn memory)) registers (lent s flash worn memory) ≡ Err Argument
+      → Carries (cond (is_create n) (at_close s) None) (c.when_broken (code_for s.version (Err Argument)) registers (lent (numbered s registers) flash worn memory))
 
-  broken_closes : (known : Bool) (needs : Needs) (broken : Bool) → reason_for (sound_in setup (lent s flash worn memory)) s registers known needs broken ≡ Argument
+  broken_closes : (known : Bool) (needs : Needs) (broken : Bool) → reason_for (sound_in setup (lent s flash worn memory)) s registers known needs broken ≡ Err Argument
       → Q (at_close s) (flush_whole (lent (numbered s registers) flash worn memory)).flash (flush_whole (lent (numbered s registers) flash worn memory)).actions
   broken_closes known needs broken a =
       closes (measured setup (length flash) (length worn) (length memory) s (argument_late (sound_in setup (lent s flash worn memory)) s registers known needs broken a).0).sound
@@ -127,16 +121,16 @@ module _ (setup : Setup) (s : Session) (registers flash worn memory : List ℕ) 
       (λ n a. absurd (false≢true (argument_late (sound_in setup (lent s flash worn memory)) s registers false Access false a).1))
 
   -- whatever the first check that refuses
-  answer_carries : (r : Reason) → reason_in setup registers (lent s flash worn memory) ≡ r
+  answer_carries : (r : Checked) → reason_in setup registers (lent s flash worn memory) ≡ r
       → Carries (flushed_for r s registers) (answer_to r (command_in registers) setup registers (lent s flash worn memory))
   unfolding answer_to
   answer_carries Accepted a = served_carries (command_of registers) refl a
-  answer_carries System a = nothing
-  answer_carries Repeated a = nothing
-  answer_carries Unknown a = nothing
-  answer_carries Suspended a = nothing
-  answer_carries Windowless a = nothing
-  answer_carries Argument a = broken_carries (command_of registers) a
+  answer_carries (Err System) a = nothing
+  answer_carries (Err Repeated) a = nothing
+  answer_carries (Err Unknown) a = nothing
+  answer_carries (Err Suspended) a = nothing
+  answer_carries (Err Windowless) a = nothing
+  answer_carries (Err Argument) a = broken_carries (command_of registers) a
 
   pub every_command : Carries (flushed_for (reason_in setup registers (lent s flash worn memory)) s registers) (mediate setup registers (lent s flash worn memory))
   unfolding mediate obeyed

@@ -1,15 +1,8 @@
 -- What a command makes of the event byte: the claims stand in specs/Events.antt.
-use mathlib.Core.Path.{◌≡◌, refl, ap, ◌∙◌}
-use mathlib.Core.Bool.{true, false, cond}
-use mathlib.Core.List.{List, [], ◌∷◌, ◌++◌}
-use Prim.Native.Nat.{ℕ, ◌+◌, min}
-use native.Mathlib.Omega.{arith}
-use lib.Bits.{bit_and}
-use lib.Dec.{ltb}
-use lib.ListN.{length, get_or, length-append, length-take, length-replicate}
-use lib.Seq.{get_or-append-add}
-use mathlib.Core.Logic.{⊎_elim}
-use Rattle.units.proofs.Cases.{decided, chosen}
+use Rattle.std.proofs.Common.{◌≡◌, refl, ap, ◌∙◌, true, false, cond, List, [], ◌∷◌, ◌++◌, ℕ, ◌+◌, min, arith, bit_and, ltb, length, get_or, length-append, length-take, get_or-append-add}
+use Rattle.std.proofs.lemmas.Bool.{false_from_ne_true}
+use lib.ListN.{length-replicate}
+use Rattle.units.proofs.Cases.{chosen}
 use Rattle.units.specs.Units.{block_bytes, to_bytes, round_up}
 use Rattle.session.specs.declared.Session.{Session}
 use Rattle.session.specs.declared.Window.{Window}
@@ -22,9 +15,8 @@ use Rattle.soundness.specs.Soundness.{sound, sound_at, sound_in}
 use Rattle.soundness.proofs.Access.{told}
 use Rattle.soundness.proofs.Facts.{sizes, fitting}
 use Rattle.flush.specs.Window.{advanced}
-use Rattle.refusals.specs.declared.Reason.TheVariants.{Accepted}
 use Rattle.refusals.specs.declared.Needs.TheVariants.{NewNumber}
-use Rattle.refusals.specs.Refusals.{is_previous, flush_marks, reason_for}
+use Rattle.refusals.specs.Refusals.{Accepted, is_previous, flush_marks, reason_for}
 use Rattle.refusals.proofs.Accepting.{accepts}
 use Rattle.registers.specs.Registers.{command_of, sequence_of, argument, number, bytes_of, padded, reply}
 use Rattle.marklist.specs.MarkList.{answer_for, listed}
@@ -151,10 +143,8 @@ events_shown setup registers m =
 -- ---- a disagreement is never sound
 disagreeing : (flash worn memory : ℕ) (s : Session) → (is_set 0x40 s.events ≡ s.suspended → ⊥) → sound flash worn memory s ≡ false
 disagreeing flash worn memory s apart =
-    ⊎_elim
-    (λ (e : sound flash worn memory s ≡ true). absurd (apart (told s.suspended s.events (fitting _ _ s (sizes flash worn memory s e).2).access)))
-    (λ (e : sound flash worn memory s ≡ false). e)
-    (decided (sound flash worn memory s))
+    false_from_ne_true (sound flash worn memory s)
+    (λ e. apart (told s.suspended s.events (fitting _ _ s (sizes flash worn memory s e).2).access))
 
 pub disagreeing_refused : DisagreeingRefused
 unfolding sound_at reason_for answer_for listed advanced

@@ -1,18 +1,12 @@
 -- What the flags of CLOSE_WINDOW do: the claims stand in specs/Flags.antt.
-use mathlib.Core.Path.{◌≡◌, refl, ap, ◌∙◌}
-use mathlib.Core.Bool.{Bool, true, false, cond, not, ◌&&◌, and-false}
-use mathlib.Core.List.{List, ◌∷◌}
-use mathlib.Core.Logic.{◌⊎◌, inl, inr}
-use Prim.Native.Nat.{ℕ, ◌≤◌, ◌<◌}
-use native.Mathlib.Omega.{arith}
-use lib.Dec.{leb, ltb}
-use borrow.Author.Tests.{leb-true, lt-ltb, le-ltb, le-leb, lt-leb}
+use Rattle.std.proofs.Common.{◌≡◌, refl, ap, ◌∙◌, Bool, true, false, cond, not, ◌&&◌, List, ◌∷◌, ◌⊎◌, inl, inr, ℕ, ◌≤◌, ◌<◌, arith, leb, ltb, leb-true, lt-ltb, le-ltb, le-leb, Err}
+use mathlib.Core.Bool.{and-false}
+use borrow.Author.Tests.{lt-leb}
 use Rattle.units.proofs.Cases.{below_or}
 use Rattle.session.specs.Machine.{Setup, Machine}
 use Rattle.soundness.specs.Soundness.{sound_in}
-use Rattle.refusals.specs.declared.Reason.{Reason}
-use Rattle.refusals.specs.declared.Reason.TheVariants.{Accepted, System, Repeated, Unknown, Suspended, Windowless, Argument}
-use Rattle.refusals.specs.Refusals.{is_previous, reason_for}
+use Rattle.refusals.specs.declared.Reason.TheVariants.{System, Repeated, Unknown, Suspended, Windowless, Argument}
+use Rattle.refusals.specs.Refusals.{Checked, Accepted, is_previous, reason_for}
 use Rattle.registers.specs.Registers.{argument}
 use Rattle.mailbox.specs.Commands.{numbered_in, closed}
 use Rattle.mailbox.specs.Table.{close_window}
@@ -37,7 +31,7 @@ breaks version flags n = above (below_or version 2) (below_or 1 flags)
 -- ---- a CLOSE_WINDOW that comes to the last check
 module _ (setup : Setup) (registers : List ℕ) (m : Machine) (r : ReachesFlags setup registers m) where
   last_check : {broken : Bool} → (leb 2 m.session.version && ltb 1 (argument 0 registers)) ≡ broken
-      → reason_in setup registers m ≡ cond broken Argument Accepted
+      → reason_in setup registers m ≡ cond broken (Err Argument) Accepted
   unfolding command_at reason_for
   last_check e = rw (r.is_close, r.sound, r.new, le-leb 1 m.session.version r.known, r.awake, e)
 
@@ -48,16 +42,16 @@ module _ (setup : Setup) (registers : List ℕ) (m : Machine) (r : ReachesFlags 
   refused_by : (Allowed m.session.version (argument 0 registers) → ⊥) → mediate setup registers m ≡ number_taken 2 registers m
   unfolding command_at answer_to
   refused_by a =
-      mediate_as setup registers m Argument (last_check (breaks m.session.version (argument 0 registers) a))
+      mediate_as setup registers m (Err Argument) (last_check (breaks m.session.version (argument 0 registers) a))
       ∙ ap (λ (n : ℕ). (command_at n).when_broken 2 registers (numbered_in registers m)) r.is_close
 
 pub flags_as_said : FlagsAsSaid
 flags_as_said setup registers m r = (closed_by setup registers m r, refused_by setup registers m r)
 
 -- ---- where a check before the last refuses, the last has no part
-early : (sound repeated known asleep : Bool) (x y : Reason) → (sound ≡ true → repeated ≡ false → known ≡ true → asleep ≡ false → ⊥)
-    → cond (not sound) System (cond repeated Repeated (cond (not known) Unknown (cond asleep Suspended x)))
-    ≡ cond (not sound) System (cond repeated Repeated (cond (not known) Unknown (cond asleep Suspended y)))
+early : (sound repeated known asleep : Bool) (x y : Checked) → (sound ≡ true → repeated ≡ false → known ≡ true → asleep ≡ false → ⊥)
+    → cond (not sound) (Err System) (cond repeated (Err Repeated) (cond (not known) (Err Unknown) (cond asleep (Err Suspended) x)))
+    ≡ cond (not sound) (Err System) (cond repeated (Err Repeated) (cond (not known) (Err Unknown) (cond asleep (Err Suspended) y)))
 early false repeated known asleep x y n = refl
 early true true known asleep x y n = refl
 early true false false asleep x y n = refl
@@ -71,20 +65,20 @@ module _ (setup : Setup) (sequence flags other_flags : ℕ) (rest : List ℕ) (m
       reason_of close_window (sound_in setup m) (5 ∷ sequence ∷ flags ∷ rest) m
       ≡ reason_of close_window (sound_in setup m) (5 ∷ sequence ∷ other_flags ∷ rest) m
 
-  alike : (q : Reason) → answer_to q close_window setup (5 ∷ sequence ∷ flags ∷ rest) m ≡ answer_to q close_window setup (5 ∷ sequence ∷ other_flags ∷ rest) m
+  alike : (q : Checked) → answer_to q close_window setup (5 ∷ sequence ∷ flags ∷ rest) m ≡ answer_to q close_window setup (5 ∷ sequence ∷ other_flags ∷ rest) m
   unfolding answer_to
   alike Accepted = refl
-  alike System = refl
-  alike Repeated = refl
-  alike Unknown = refl
-  alike Suspended = refl
-  alike Windowless = refl
-  alike Argument = refl
+  alike (Err System) = refl
+  alike (Err Repeated) = refl
+  alike (Err Unknown) = refl
+  alike (Err Suspended) = refl
+  alike (Err Windowless) = refl
+  alike (Err Argument) = refl
 
   same_left : Same → mediate setup (5 ∷ sequence ∷ flags ∷ rest) m ≡ mediate setup (5 ∷ sequence ∷ other_flags ∷ rest) m
   unfolding mediate obeyed command_at
   same_left e =
-      ap (λ (q : Reason). answer_to q close_window setup (5 ∷ sequence ∷ flags ∷ rest) m) e
+      ap (λ (q : Checked). answer_to q close_window setup (5 ∷ sequence ∷ flags ∷ rest) m) e
       ∙ alike (reason_of close_window (sound_in setup m) (5 ∷ sequence ∷ other_flags ∷ rest) m)
 
   same_allowed : Allowed m.session.version flags → Allowed m.session.version other_flags → Same

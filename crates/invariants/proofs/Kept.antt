@@ -1,13 +1,8 @@
 -- A sound session stays sound: the claims stand in specs/Kept.antt.
-use mathlib.Core.Path.{◌≡◌, refl, sym, ap, ◌∙◌}
-use mathlib.Core.Bool.{Bool, true, false, not, ◌&&◌, false≢true}
-use mathlib.Core.List.{List}
-use mathlib.Core.Logic.{⊎_elim}
-use Prim.Native.Nat.{ℕ, ◌+◌, ◌*◌, ◌≤◌, ◌<◌, min}
-use native.Mathlib.Omega.{arith}
-use lib.Dec.{leb, eqb}
-use lib.ListN.{length}
-use borrow.Author.Tests.{le-leb, leb-false, eq-eqb, eqb-false, not-false}
+use Rattle.std.proofs.Common.{◌≡◌, refl, sym, ap, ◌∙◌, Bool, true, false, not, ◌&&◌, List, ⊎_elim, ℕ, ◌+◌, ◌*◌, ◌≤◌, ◌<◌, min, arith, leb, eqb, length, le-leb, leb-false, eq-eqb, Err}
+use Rattle.std.proofs.lemmas.Bool.{true_from_ne_false}
+use mathlib.Core.Bool.{false≢true}
+use borrow.Author.Tests.{eqb-false, not-false}
 use Rattle.units.proofs.Cases.{decided, chosen}
 use Rattle.units.specs.Units.{round_up}
 use Rattle.session.specs.declared.Session.{Session}
@@ -21,13 +16,12 @@ use Rattle.soundness.proofs.Facts.{sound_with, refitted_at, measured}
 use Rattle.soundness.proofs.SoundMarks.{clean_sound}
 use Rattle.session.specs.Suspension.{suspended, resumed, resumed_changed}
 use Rattle.session.specs.Marks.{dirty, erased_mark, counts_of}
-use Rattle.refusals.specs.declared.Reason.TheVariants.{Accepted, System}
+use Rattle.refusals.specs.declared.Reason.TheVariants.{System}
 use Rattle.registers.specs.Registers.{command_of, argument, number}
 use Rattle.refusals.specs.declared.Needs.TheVariants.{Access, WriteWindow}
-use Rattle.refusals.specs.Refusals.{blocks_named, flush_marks, is_write, reason_for}
+use Rattle.refusals.specs.Refusals.{Accepted, blocks_named, flush_marks, is_write, reason_for}
 use Rattle.refusals.proofs.Accepting.{passed, named_within}
-use Rattle.marklist.specs.declared.ListAnswer.TheVariants.{Marked}
-use Rattle.marklist.specs.MarkList.{pairs_of, mark_pairs}
+use Rattle.marklist.specs.MarkList.{Marked, pairs_of, mark_pairs}
 use Rattle.marklist.proofs.Taken.{taken, list_left}
 use Rattle.flush.specs.Worn.{finished_blocks, marks_kept}
 use Rattle.flush.specs.Window.{window_worn, flush_fails, flush_whole}
@@ -232,10 +226,10 @@ fresh_as_said setup S C s t c d b =
     (rw memory b)
 
 -- a command that is not refused with SYSTEM_ERROR is sent to a sound session
-pub sounds_unless : (setup : Setup) (registers : List ℕ) (m : Machine) → (reason_in setup registers m ≡ System → ⊥) → sound_in setup m ≡ true
+pub sounds_unless : (setup : Setup) (registers : List ℕ) (m : Machine) → (reason_in setup registers m ≡ Err System → ⊥) → sound_in setup m ≡ true
 unfolding reason_for
 sounds_unless setup registers m fine =
-    ⊎_elim (λ (e : sound_in setup m ≡ true). e) (λ (e : sound_in setup m ≡ false). absurd (fine (rw e))) (decided (sound_in setup m))
+    true_from_ne_false (sound_in setup m) (λ e. fine (rw e))
 
 pub flush_sound : FlushSound
 unfolding command_at

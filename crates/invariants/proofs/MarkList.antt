@@ -1,13 +1,7 @@
 -- A list of marks in one call: the claims stand in specs/MarkList.antt.
-use mathlib.Core.Path.{◌≡◌, refl, sym, ap, subst, ◌∙◌}
-use mathlib.Core.Bool.{Bool, true, false, cond, not, false≢true}
-use mathlib.Core.List.{List, [], ◌∷◌}
-use mathlib.Core.Logic.{◌⊎◌, inl, inr, ⊎_elim}
-use Prim.Native.Nat.{ℕ, zero, suc, ◌+◌, ◌-◌, ◌*◌, ◌/◌, ◌%◌, ◌≤◌, ◌<◌}
-use native.Mathlib.Omega.{arith}
-use lib.Dec.{leb, eqb}
-use lib.ListN.{length, get_or, replicate}
-use borrow.Author.Tests.{le-leb, le-ltb, lt-ltb, eq-eqb, ne_eqb, eqb-false, not-false}
+use Rattle.std.proofs.Common.{◌≡◌, refl, sym, ap, subst, ◌∙◌, Bool, true, false, cond, not, List, [], ◌∷◌, ◌⊎◌, inl, inr, ⊎_elim, ℕ, zero, suc, ◌+◌, ◌-◌, ◌*◌, ◌/◌, ◌%◌, ◌≤◌, ◌<◌, arith, leb, eqb, length, get_or, replicate, le-leb, le-ltb, lt-ltb, eq-eqb, ne_eqb, Err}
+use mathlib.Core.Bool.{false≢true}
+use borrow.Author.Tests.{eqb-false, not-false}
 use Rattle.units.proofs.Cases.{decided, passed_by}
 use Rattle.buffers.specs.Ranges.{replace}
 use Rattle.session.specs.declared.Session.{Session}
@@ -18,15 +12,12 @@ use Rattle.session.specs.Record.{with_previous, with_counted, with_marks}
 use Rattle.soundness.specs.Soundness.{sound_at, sound_in}
 use Rattle.soundness.proofs.Facts.{measured}
 use Rattle.registers.specs.Registers.{command_of, sequence_of, number}
-use Rattle.refusals.specs.declared.BlockRange.{BlockRange}
 use Rattle.refusals.specs.declared.Needs.TheVariants.{WriteWindow}
-use Rattle.refusals.specs.declared.Reason.{Reason}
-use Rattle.refusals.specs.declared.Reason.TheVariants.{Accepted, System, Repeated, Unknown, Suspended as SuspendedCommand, Windowless as WindowlessCommand, Argument}
-use Rattle.refusals.specs.Refusals.{is_previous, is_write, blocks_named, reason_for, code_for}
+use Rattle.refusals.specs.declared.Reason.TheVariants.{System, Repeated, Unknown, Suspended as SuspendedCommand, Windowless as WindowlessCommand, Argument}
+use Rattle.refusals.specs.Refusals.{NamedBlocks, Checked, Accepted, is_previous, is_write, blocks_named, reason_for, code_for}
 use Rattle.refusals.proofs.Accepting.{passed}
-use Rattle.marklist.specs.declared.ListAnswer.{ListAnswer}
-use Rattle.marklist.specs.declared.ListAnswer.TheVariants.{Marked, Unsound, OtherVersion, Suspended, Windowless, Malformed, Outside}
-use Rattle.marklist.specs.MarkList.{Pair, pairs_of, malformed, first_outside, answer_for, list_code, names_pair, place_named, mark_pairs, listed, listed_in, after_list}
+use Rattle.marklist.specs.declared.ListError.TheVariants.{Unsound, OtherVersion, Suspended, Windowless, Malformed, Outside}
+use Rattle.marklist.specs.MarkList.{ListAnswer, Marked, Pair, pairs_of, malformed, first_outside, answer_for, list_code, names_pair, place_named, mark_pairs, listed, listed_in, after_list}
 use Rattle.marklist.proofs.InPairs.{inside_front}
 use Rattle.marklist.proofs.Reaching.{pairs_marked}
 use Rattle.marklist.proofs.Taken.{Taken, taken, answer_taken, within_marks, list_left, list_answer, each_check, pairs_code}
@@ -48,12 +39,12 @@ list_leaves setup list m =
 -- code 1 is that of a list that was marked
 code_marked : (a : ListAnswer) → list_code a ≡ 1 → a ≡ Marked
 code_marked Marked e = refl
-code_marked Unsound e = absurd (omega arith)
-code_marked OtherVersion e = absurd (omega arith)
-code_marked Suspended e = absurd (omega arith)
-code_marked Windowless e = absurd (omega arith)
-code_marked Malformed e = absurd (omega arith)
-code_marked (Outside place) e = absurd (omega arith)
+code_marked (Err Unsound) e = absurd (omega arith)
+code_marked (Err OtherVersion) e = absurd (omega arith)
+code_marked (Err Suspended) e = absurd (omega arith)
+code_marked (Err Windowless) e = absurd (omega arith)
+code_marked (Err Malformed) e = absurd (omega arith)
+code_marked (Err (Outside place)) e = absurd (omega arith)
 
 answer_marked : (setup : Setup) (list : List ℕ) (m : Machine) → answer_code setup list m ≡ 1 → answer_for (sound_in setup m) list m.session ≡ Marked
 answer_marked setup list m e = sym (list_answer setup list m) ∙ code_marked (listed_in setup list m).answer e
@@ -133,7 +124,7 @@ module _ (setup : Setup) (registers : List ℕ) (m : Machine) (is : command_of r
   unfolding command_at
   leaves a =
       ap (λ (o : Outcome). o.machine) (carried setup registers m 7 is a)
-      ∙ ap (λ (b : BlockRange). holding (with_marks (replace b.start (replicate b.count dirty) m.session.marks) (numbered m.session registers)) m) named
+      ∙ ap (λ (b : NamedBlocks). holding (with_marks (replace b.start (replicate b.count dirty) m.session.marks) (numbered m.session registers)) m) named
     where
       named : blocks_named (numbered m.session registers) registers ≡ record { inside = inside; start = number 2 0 registers; count = number 2 2 registers }
       named = rw two refl
@@ -142,15 +133,15 @@ module _ (setup : Setup) (registers : List ℕ) (m : Machine) (is : command_of r
   abbrev repeated : Bool
   repeated = is_previous m.session.previous (sequence_of registers)
 
-  code_is : (r : Reason) → get_or (answer_to r (command_at 7) setup registers m).registers 13 0 ≡ code_for 2 r
+  code_is : (r : Checked) → get_or (answer_to r (command_at 7) setup registers m).registers 13 0 ≡ code_for 2 r
   unfolding answer_to command_at
   code_is Accepted = refl
-  code_is System = refl
-  code_is Repeated = rw two refl
-  code_is Unknown = refl
-  code_is SuspendedCommand = rw two refl
-  code_is WindowlessCommand = rw two refl
-  code_is Argument = refl
+  code_is (Err System) = refl
+  code_is (Err Repeated) = rw two refl
+  code_is (Err Unknown) = refl
+  code_is (Err SuspendedCommand) = rw two refl
+  code_is (Err WindowlessCommand) = rw two refl
+  code_is (Err Argument) = refl
 
   responds_as : response setup registers m ≡ code_for 2 (reason_for (sound_in setup m) m.session registers true WriteWindow (not inside))
   responds_as =
@@ -160,21 +151,21 @@ module _ (setup : Setup) (registers : List ℕ) (m : Machine) (is : command_of r
       ∙ ap (code_for 2) (reason_is ∙ (λ k. reason_for (sound_in setup m) m.session registers (known k) WriteWindow (not (inside_is k))))
 
   -- PARAM_ERROR is that of an argument: every check before has passed
-  abbrev Two : Reason → Type 0
+  abbrev Two : Checked → Type 0
   Two r = code_for 2 r ≡ 2
 
   argued : response setup registers m ≡ 2 → Ready setup m × (inside ≡ false)
   unfolding reason_for
   argued e =
-      let a = passed_by Two (not (sound_in setup m)) System _ (λ q. omega arith) (sym responds_as ∙ e) in
-      let b = passed_by Two repeated Repeated _ (λ q. omega arith) a.1 in
-      let c = passed_by Two m.session.suspended SuspendedCommand _ (λ q. omega arith) b.1 in
-      let d = passed_by Two (not (is_write m.session.window)) WindowlessCommand _ (λ q. omega arith) c.1 in (
+      let a = passed_by Two (not (sound_in setup m)) (Err System) _ (λ q. omega arith) (sym responds_as ∙ e) in
+      let b = passed_by Two repeated (Err Repeated) _ (λ q. omega arith) a.1 in
+      let c = passed_by Two m.session.suspended (Err SuspendedCommand) _ (λ q. omega arith) b.1 in
+      let d = passed_by Two (not (is_write m.session.window)) (Err WindowlessCommand) _ (λ q. omega arith) c.1 in (
         record { sounds = not-false (sound_in setup m) a.0; two = two; awake = c.0; writes = not-false (is_write m.session.window) d.0 },
         last inside d.1,
       )
     where
-      last : (b : Bool) → code_for 2 (cond (not b) Argument Accepted) ≡ 2 → b ≡ false
+      last : (b : Bool) → code_for 2 (cond (not b) (Err Argument) Accepted) ≡ 2 → b ≡ false
       last true q = absurd (omega arith)
       last false q = refl
 
@@ -209,15 +200,15 @@ module _ (setup : Setup) (registers : List ℕ) (m : Machine) (is : command_of r
       }
 
 -- the place of a pair that is named comes from where the places are counted
-first_least : (size place first : ℕ) (pairs : List Pair) → first_outside size place pairs ≡ Outside first → place ≤ first
-first_least size place first [] e = absurd (let z : ◌≡◌ {A = ℕ} 0 1 = cc in omega arith)
+first_least : (size place first : ℕ) (pairs : List Pair) → first_outside size place pairs ≡ Err (Outside first) → place ≤ first
+first_least size place first [] e = cc
 first_least size place first (pair ∷ pairs) e =
     ⊎_elim
     (λ (t : leb (pair.block + pair.count) size ≡ true).
-    let rest = first_least size (suc place) first pairs (ap (λ (b : Bool). cond (not b) (Outside place) (first_outside size (suc place) pairs)) (sym t) ∙ e) in
+    let rest = first_least size (suc place) first pairs (ap (λ (b : Bool). cond (not b) (Err (Outside place)) (first_outside size (suc place) pairs)) (sym t) ∙ e) in
     omega arith)
     (λ (t : leb (pair.block + pair.count) size ≡ false).
-    let here = ap place_named (ap (λ (b : Bool). cond (not b) (Outside place) (first_outside size (suc place) pairs)) (sym t) ∙ e) in
+    let here = ap place_named (ap (λ (b : Bool). cond (not b) (Err (Outside place)) (first_outside size (suc place) pairs)) (sym t) ∙ e) in
     omega arith)
     (decided (leb (pair.block + pair.count) size))
 
@@ -243,15 +234,15 @@ module _ (setup : Setup) where
 
   -- the first pair that does not: its command is the first that fails
   outside_fails : (pairs : List Pair) (sent : List (List ℕ)) (m : Machine) (place first : ℕ) → Ready setup m → Single pairs sent → NeverRepeat m.session.previous sent
-      → first_outside m.session.size place pairs ≡ Outside first → FailAt (first - place) setup sent m
-  outside_fails [] sent m place first r single new e = absurd (let z : ◌≡◌ {A = ℕ} 0 1 = cc in omega arith)
+      → first_outside m.session.size place pairs ≡ Err (Outside first) → FailAt (first - place) setup sent m
+  outside_fails [] sent m place first r single new e = cc
   outside_fails (pair ∷ pairs) [] m place first r single new e = absurd single
   outside_fails (pair ∷ pairs) (registers ∷ sent) m place first r single new e =
       ⊎_elim
       (λ (t : leb (pair.block + pair.count) m.session.size ≡ true).
       let one = inside_one setup registers m is r.two r.sounds new.0 r.awake r.writes (numbers ∙ t) in
       let a = accepted setup m.session registers m.flash m.worn m.memory one in
-      let rest = ap (λ (b : Bool). cond (not b) (Outside place) (first_outside m.session.size (suc place) pairs)) (sym t) ∙ e in
+      let rest = ap (λ (b : Bool). cond (not b) (Err (Outside place)) (first_outside m.session.size (suc place) pairs)) (sym t) ∙ e in
       let later = first_least m.session.size (suc place) first pairs rest in
       let one_less : suc (first - suc place) ≡ first - place = omega arith in
       subst (λ (n : ℕ). FailAt n setup (registers ∷ sent) m) one_less (
@@ -260,7 +251,7 @@ module _ (setup : Setup) where
             (outside_fails pairs sent (marked_by registers m) (suc place) first (ready_next setup registers m is r.two r a) single.3 new.1 rest),
       ))
       (λ (t : leb (pair.block + pair.count) m.session.size ≡ false).
-      let here = ap place_named (ap (λ (b : Bool). cond (not b) (Outside place) (first_outside m.session.size (suc place) pairs)) (sym t) ∙ e) in
+      let here = ap place_named (ap (λ (b : Bool). cond (not b) (Err (Outside place)) (first_outside m.session.size (suc place) pairs)) (sym t) ∙ e) in
       let none : 0 ≡ first - place = omega arith in
       subst (λ (n : ℕ). FailAt n setup (registers ∷ sent) m) none
       (outside_two setup registers m is r.two r.sounds new.0 r.awake r.writes (numbers ∙ t)))
@@ -281,7 +272,7 @@ module _ (setup : Setup) where
       let a = accepted setup m.session registers m.flash m.worn m.memory ok.0 in
       let within = (ready_if setup registers m single.0 two a).1 in
       let rest = subst (λ (n : Machine). AllSucceed setup sent n) (leaves setup registers m single.0 two a) ok.1 in
-      ap (λ (b : Bool). cond (not b) (Outside place) (first_outside m.session.size (suc place) pairs))
+      ap (λ (b : Bool). cond (not b) (Err (Outside place)) (first_outside m.session.size (suc place) pairs))
       ((λ k. leb (sym single.1 k + sym single.2 k) m.session.size) ∙ within)
       ∙ sent_inside pairs sent (marked_by registers m) (suc place) two single.3 rest
 
@@ -308,16 +299,16 @@ module _ (setup : Setup) where
 
   -- where they fail at a place, the pair there is the first outside; and the first command tells of the machine
   sent_outside : (pairs : List Pair) (sent : List (List ℕ)) (m : Machine) (first place : ℕ) → m.session.version ≡ 2 → Single pairs sent
-      → FailAt place setup sent m → Ready setup m × (first_outside m.session.size first pairs ≡ Outside (first + place))
+      → FailAt place setup sent m → Ready setup m × (first_outside m.session.size first pairs ≡ Err (Outside (first + place)))
   sent_outside pairs [] m first place two single fails = absurd fails
   sent_outside [] (registers ∷ sent) m first place two single fails = absurd single
   sent_outside (pair ∷ pairs) (registers ∷ sent) m first zero two single fails =
       let a = argued setup registers m single.0 two fails in
       let here : first ≡ first + 0 = omega arith in (
         a.0,
-        ap (λ (b : Bool). cond (not b) (Outside first) (first_outside m.session.size (suc first) pairs))
+        ap (λ (b : Bool). cond (not b) (Err (Outside first)) (first_outside m.session.size (suc first) pairs))
             ((λ k. leb (sym single.1 k + sym single.2 k) m.session.size) ∙ a.1)
-            ∙ ap Outside here,
+            ∙ ap (λ (n : ℕ). Err (Outside n)) here,
       )
   sent_outside (pair ∷ pairs) (registers ∷ sent) m first (suc place) two single fails =
       let a = accepted setup m.session registers m.flash m.worn m.memory fails.0 in
@@ -325,10 +316,10 @@ module _ (setup : Setup) where
       let rest = subst (λ (n : Machine). FailAt place setup sent n) (leaves setup registers m single.0 two a) fails.1 in
       let later : suc first + place ≡ first + suc place = omega arith in (
         r.0,
-        ap (λ (b : Bool). cond (not b) (Outside first) (first_outside m.session.size (suc first) pairs))
+        ap (λ (b : Bool). cond (not b) (Err (Outside first)) (first_outside m.session.size (suc first) pairs))
             ((λ k. leb (sym single.1 k + sym single.2 k) m.session.size) ∙ r.1)
             ∙ (sent_outside pairs sent (marked_by registers m) (suc first) place two single.3 rest).1
-            ∙ ap Outside later,
+            ∙ ap (λ (n : ℕ). Err (Outside n)) later,
       )
 
 -- ---- both directions
@@ -374,16 +365,16 @@ all_succeeded setup (pair ∷ pairs) (registers ∷ sent) m two few single ok =
     )
 
 -- an answer that names a pair is that of its place
-named_is : (a : ListAnswer) → names_pair a ≡ true → a ≡ Outside (place_named a)
+named_is : (a : ListAnswer) → names_pair a ≡ true → a ≡ Err (Outside (place_named a))
 named_is Marked e = absurd (false≢true e)
-named_is Unsound e = absurd (false≢true e)
-named_is OtherVersion e = absurd (false≢true e)
-named_is Suspended e = absurd (false≢true e)
-named_is Windowless e = absurd (false≢true e)
-named_is Malformed e = absurd (false≢true e)
-named_is (Outside place) e = refl
+named_is (Err Unsound) e = absurd (false≢true e)
+named_is (Err OtherVersion) e = absurd (false≢true e)
+named_is (Err Suspended) e = absurd (false≢true e)
+named_is (Err Windowless) e = absurd (false≢true e)
+named_is (Err Malformed) e = absurd (false≢true e)
+named_is (Err (Outside place)) e = refl
 
-names : (setup : Setup) (list : List ℕ) (m : Machine) (place : ℕ) → (listed_in setup list m).answer ≡ Outside place → Names place setup list m
+names : (setup : Setup) (list : List ℕ) (m : Machine) (place : ℕ) → (listed_in setup list m).answer ≡ Err (Outside place) → Names place setup list m
 names setup list m place e = record { code = ap list_code e; naming = ap names_pair e; named = ap place_named e }
 
 pub list_as_commands : ListAsCommands
@@ -391,8 +382,8 @@ list_as_commands setup pairs sent m two few single = (
   all_succeeded setup pairs sent m two few single,
   λ place n new.
       let list = numbers_of pairs in
-      let e = sym (list_answer setup list m) ∙ named_is (listed_in setup list m).answer n.naming ∙ ap Outside n.named in
-      let t = taken (sound_in setup m) list m.session (Outside place) refl e in
+      let e = sym (list_answer setup list m) ∙ named_is (listed_in setup list m).answer n.naming ∙ ap (λ (n : ℕ). Err (Outside n)) n.named in
+      let t = taken (sound_in setup m) list m.session (Err (Outside place)) refl e in
       let all : place - 0 ≡ place = omega arith in
       subst (λ (n : ℕ). FailAt n setup sent m) all
       (outside_fails setup pairs sent m 0 place (ready_list setup pairs m two t.0) single new (ap (first_outside m.session.size 0) (sym (same_pairs pairs)) ∙ t.1)),
@@ -402,7 +393,7 @@ list_as_commands setup pairs sent m two few single = (
   λ place fails.
       let f = sent_outside setup pairs sent m 0 place two single fails in
       let here : 0 + place ≡ place = omega arith in
-      names setup (numbers_of pairs) m place (list_answer setup (numbers_of pairs) m ∙ list_answered setup pairs m two few f.0 ∙ f.1 ∙ ap Outside here),
+      names setup (numbers_of pairs) m place (list_answer setup (numbers_of pairs) m ∙ list_answered setup pairs m two few f.0 ∙ f.1 ∙ ap (λ (n : ℕ). Err (Outside n)) here),
 )
 
 -- ---- the refusals that come before the pairs
@@ -435,10 +426,10 @@ module _ (setup : Setup) (list registers : List ℕ) (m : Machine) (two : m.sess
   unfolding answer_for
   to_list false suspends writes e s w not-1 not-2 = ap list_code (answered setup list m false e) ∙ sym (unsound_four setup registers m is two e)
   to_list true true writes e s w not-1 not-2 =
-      let a : answer_for true list m.session ≡ Suspended = rw (two, s) refl in
+      let a : answer_for true list m.session ≡ (Err Suspended) = rw (two, s) refl in
       ap list_code (answered setup list m true e ∙ a) ∙ sym (suspended_six setup registers m is two e new s)
   to_list true false false e s w not-1 not-2 =
-      let a : answer_for true list m.session ≡ Windowless = rw (two, s, w) refl in
+      let a : answer_for true list m.session ≡ (Err Windowless) = rw (two, s, w) refl in
       ap list_code (answered setup list m true e ∙ a) ∙ sym (windowless_seven setup registers m is two e new s w)
   to_list true false true e s w not-1 not-2 =
       ⊎_elim
@@ -466,7 +457,7 @@ unfolding answer_for
 list_at_version setup list m = (
   λ e. let q = answered setup list m false e in (ap list_code q, ap names_pair q),
   λ e n.
-      let other : answer_for true list m.session ≡ OtherVersion = rw (ne_eqb m.session.version 2 n) refl in
+      let other : answer_for true list m.session ≡ (Err OtherVersion) = rw (ne_eqb m.session.version 2 n) refl in
       let q = answered setup list m true e ∙ other in
       (ap list_code q, ap names_pair q),
 )
@@ -498,9 +489,9 @@ list_unnamed setup list m = none (listed_in setup list m).answer
   where
     none : (a : ListAnswer) → names_pair a ≡ false → place_named a ≡ 0
     none Marked e = refl
-    none Unsound e = refl
-    none OtherVersion e = refl
-    none Suspended e = refl
-    none Windowless e = refl
-    none Malformed e = refl
-    none (Outside place) e = absurd (false≢true (sym e))
+    none (Err Unsound) e = refl
+    none (Err OtherVersion) e = refl
+    none (Err Suspended) e = refl
+    none (Err Windowless) e = refl
+    none (Err Malformed) e = refl
+    none (Err (Outside place)) e = absurd (false≢true (sym e))

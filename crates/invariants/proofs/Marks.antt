@@ -1,14 +1,6 @@
 -- What every command makes of the window and of the marks: the claims stand in specs/Marks.antt.
-use mathlib.Core.Path.{◌≡◌, refl, sym, ap, ◌∙◌, subst}
-use mathlib.Core.Bool.{Bool, true, false, cond, not, ◌&&◌, ◌||◌, true≢false}
-use mathlib.Core.List.{List}
-use mathlib.Core.Logic.{⊎_elim}
-use Prim.Native.Nat.{ℕ, ◌+◌, ◌-◌, ◌≤◌}
-use native.Mathlib.Nat.{le_trans}
-use native.Mathlib.Omega.{arith}
-use lib.Dec.{leb, ltb, eqb}
-use lib.ListN.{length, get_or, replicate}
-use borrow.Author.Tests.{not-false, eqb-true}
+use Rattle.std.proofs.Common.{◌≡◌, refl, sym, ap, ◌∙◌, subst, Bool, true, false, cond, not, ◌&&◌, ◌||◌, true≢false, List, ⊎_elim, ℕ, ◌+◌, ◌-◌, ◌≤◌, le_trans, arith, leb, ltb, eqb, length, get_or, replicate, eqb-true}
+use borrow.Author.Tests.{not-false}
 use Rattle.units.specs.Units.{round_up}
 use Rattle.units.proofs.Cases.{decided}
 use Rattle.buffers.specs.Ranges.{replace}
@@ -21,10 +13,8 @@ use Rattle.session.specs.Marks.{dirty}
 use Rattle.session.specs.Record.{clean, with_access, with_marks, with_window, drop_window}
 use Rattle.session.proofs.Answers.{either_way}
 use Rattle.soundness.specs.Soundness.{sound_in}
-use Rattle.refusals.specs.declared.BlockRange.{BlockRange}
 use Rattle.refusals.specs.declared.Needs.TheVariants.{WriteWindow}
-use Rattle.refusals.specs.declared.Reason.TheVariants.{Accepted}
-use Rattle.refusals.specs.Refusals.{blocks_named, flush_marks, reason_for}
+use Rattle.refusals.specs.Refusals.{NamedBlocks, Accepted, blocks_named, flush_marks, reason_for}
 use Rattle.refusals.proofs.Accepting.{passed, named_within}
 use Rattle.registers.specs.Registers.{command_of, number}
 use Rattle.marklist.proofs.Reaching.{placed}
@@ -40,11 +30,11 @@ use Rattle.invariants.specs.Marks.{is_named, MarksAsSaid, FlushMarksAsSaid, Same
 use Rattle.invariants.proofs.Kept.{sounds_unless}
 
 -- ---- the marks, block by block: the named blocks as the claim has them
-chosen_start : (t : Bool) (x y : BlockRange) → (cond t x y).start ≡ cond t x.start y.start
+chosen_start : (t : Bool) (x y : NamedBlocks) → (cond t x y).start ≡ cond t x.start y.start
 chosen_start true x y = refl
 chosen_start false x y = refl
 
-chosen_count : (t : Bool) (x y : BlockRange) → (cond t x y).count ≡ cond t x.count y.count
+chosen_count : (t : Bool) (x y : NamedBlocks) → (cond t x y).count ≡ cond t x.count y.count
 chosen_count true x y = refl
 chosen_count false x y = refl
 
@@ -62,7 +52,7 @@ module _ (s : Session) (registers marks : List ℕ) (mark block : ℕ) (fits : (
 
 module _ (setup : Setup) (registers : List ℕ) (m : Machine) (long : length m.session.marks ≡ 64) (a : reason_in setup registers m ≡ Accepted) where
   few : m.session.size ≤ 64
-  few = (call_fits setup m (sounds_unless setup registers m (λ q. let z : ◌≡◌ {A = ℕ} 0 1 = cc in omega arith))).few
+  few = (call_fits setup m (sounds_unless setup registers m (λ q. cc))).few
 
   fits : (known : Bool) → reason_for (sound_in setup m) m.session registers known WriteWindow (not (blocks_named m.session registers).inside) ≡ Accepted
       → (blocks_named m.session registers).start + (blocks_named m.session registers).count ≤ length m.session.marks

@@ -1,20 +1,12 @@
 -- Marks stay sound where some blocks of the window get one that is sound, and where the first or the last of them are left out.
-use mathlib.Core.Path.{◌≡◌, refl, sym, ap, ◌∙◌}
-use mathlib.Core.Bool.{true}
-use mathlib.Core.List.{List, [], ◌∷◌, ◌++◌, append-nil}
-use Prim.Native.Nat.{ℕ, zero, suc, ◌+◌, ◌≤◌}
-use native.Mathlib.Omega.{arith}
-use native.Mathlib.Nat.{not-suc-le-zero, le_of_suc-le-suc}
-use lib.Dec.{leb}
-use lib.ListN.{take, drop, replicate, length-replicate}
-use lib.Seq.{drop-drop}
+use Rattle.std.proofs.Common.{◌≡◌, refl, sym, ap, ◌∙◌, true, List, [], ◌∷◌, ◌++◌, append-nil, ℕ, zero, suc, ◌+◌, ◌≤◌, arith, not-suc-le-zero, le_of_suc-le-suc, leb, take, drop, replicate, drop-drop}
+use lib.ListN.{length-replicate}
 use Rattle.units.proofs.Cases.{both}
 use Rattle.buffers.specs.Ranges.{replace}
 use Rattle.session.specs.Marks.{dirty}
 use Rattle.soundness.specs.Soundness.{marks_sound}
 use Rattle.soundness.proofs.SoundMarks.{clean_sound}
-use Rattle.marklist.specs.declared.ListAnswer.TheVariants.{Marked}
-use Rattle.marklist.specs.MarkList.{Pair, first_outside, mark_pairs}
+use Rattle.marklist.specs.MarkList.{Marked, Pair, first_outside, mark_pairs}
 use Rattle.marklist.proofs.InPairs.{inside_front}
 
 module _ (mark : ℕ) (fine : leb mark 2 ≡ true) where

@@ -1,9 +1,6 @@
 -- What every command makes of the window memory: the claim stands in specs/Memory.antt.
-use mathlib.Core.Path.{◌≡◌, refl}
-use mathlib.Core.List.{List}
-use Prim.Native.Nat.{ℕ}
+use Rattle.std.proofs.Common.{◌≡◌, refl, List, ℕ}
 use Rattle.session.specs.Machine.{Setup, Machine, holding}
-use Rattle.refusals.specs.declared.Reason.TheVariants.{Accepted}
 use Rattle.registers.specs.Registers.{command_of}
 use Rattle.mailbox.specs.Commands.{Outcome, numbered, numbered_in, flushing}
 use Rattle.mailbox.specs.Table.{Command}
@@ -11,6 +8,7 @@ use Rattle.mailbox.specs.Mediator.{command_at, reason_in, mediate}
 use Rattle.mailbox.proofs.Ends.{close_ends, flush_ends}
 use Rattle.mailbox.proofs.Mediating.{each_command, each_answer}
 use Rattle.invariants.specs.Memory.{MemoryStays}
+use Rattle.refusals.specs.Refusals.{Accepted}
 
 module _ (setup : Setup) (registers : List ℕ) (m : Machine) where
   -- what is to be shown of an outcome

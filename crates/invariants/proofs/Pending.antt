@@ -1,13 +1,7 @@
 -- The kept numbers and the question: the claims stand in specs/Pending.antt.
-use mathlib.Core.Path.{◌≡◌, refl, sym, ap, ◌∙◌, subst}
-use mathlib.Core.Bool.{Bool, true, false, cond, not, ◌&&◌, ◌||◌, false≢true, and-false}
-use mathlib.Core.List.{List, [], ◌∷◌}
-use mathlib.Core.Logic.{◌⊎◌, ⊎_elim}
-use Prim.Native.Nat.{ℕ, zero, suc, ◌+◌, ◌*◌, ◌≤◌}
-use native.Mathlib.Omega.{arith}
-use lib.Dec.{leb, ltb, eqb}
-use lib.ListN.{length}
-use borrow.Author.Tests.{leb-true}
+use Rattle.std.proofs.Common.{◌≡◌, refl, sym, ap, ◌∙◌, subst, Bool, true, false, cond, not, ◌&&◌, ◌||◌, List, [], ◌∷◌, ◌⊎◌, ⊎_elim, ℕ, zero, suc, ◌+◌, ◌*◌, ◌≤◌, arith, leb, ltb, eqb, length, leb-true, Err}
+use Rattle.std.proofs.lemmas.Bool.{false_from_ne_true}
+use mathlib.Core.Bool.{false≢true, and-false}
 use Rattle.units.proofs.Cases.{both}
 use Rattle.session.specs.declared.Counts.{Counts}
 use Rattle.session.specs.declared.Session.{Session}
@@ -18,17 +12,16 @@ use Rattle.session.specs.Record.{clean, fresh, with_access, drop_window}
 use Rattle.session.specs.Suspension.{answer}
 use Rattle.session.specs.Marks.{dirty, of_kind, marks_of, counts_of}
 use Rattle.soundness.specs.Soundness.{markable, marks_sound, sound_at, sound_in}
-use Rattle.soundness.specs.declared.pending_work.PendingWork.TheVariants.{Marked}
 use Rattle.soundness.proofs.Facts.{miscounted, measured}
 use Rattle.soundness.proofs.Answered.{pending_right, pending_wrong}
+use Rattle.soundness.specs.Pending.{marked_work}
 use Rattle.flush.specs.Actions.{flush_actions}
 use Rattle.flush.specs.Window.{window_actions, window_worn, advanced, flush_whole}
 use Rattle.flush.proofs.Failing.{until_all}
 use Rattle.flush.proofs.Lists.{flush_count}
-use Rattle.refusals.specs.declared.Reason.{Reason}
-use Rattle.refusals.specs.declared.Reason.TheVariants.{Accepted, System}
+use Rattle.refusals.specs.declared.Reason.TheVariants.{System}
 use Rattle.refusals.specs.declared.Needs.TheVariants.{Access}
-use Rattle.refusals.specs.Refusals.{flush_marks, reason_for}
+use Rattle.refusals.specs.Refusals.{Checked, Accepted, flush_marks, reason_for}
 use Rattle.refusals.proofs.Accepting.{passed}
 use Rattle.registers.specs.Registers.{command_of, number}
 use Rattle.marklist.specs.MarkList.{answer_for, listed}
@@ -162,7 +155,7 @@ pending_tells setup m e =
     let blocks = ap (λ (c : Counts). c.dirty + c.erased) n
     ∙ marked_all (markable s.window s.size) s.marks (measured setup (length m.flash) (length m.worn) (length m.memory) s e).fits.marks in
     let actions = ap (λ (c : Counts). 17 * c.dirty + c.erased) n ∙ sym (flush_count s.marks) in
-    pending_right s n ∙ (λ i. Marked (blocks i) (actions i))
+    pending_right s n ∙ (λ i. marked_work (blocks i) (actions i))
 
 -- ---- the answer that carries it
 module _ (setup : Setup) (registers : List ℕ) (m : Machine) where
@@ -191,7 +184,7 @@ module _ (setup : Setup) (registers : List ℕ) (m : Machine) where
       (λ n t a f. absurd (false≢true (passed t m.session registers false Access false a).knows))
 
   -- the window's flush, where it does not fail
-  whole : (reason_in setup registers m ≡ System → ⊥) → (flush_whole (numbered_in registers m)).failed ≡ false
+  whole : (reason_in setup registers m ≡ Err System → ⊥) → (flush_whole (numbered_in registers m)).failed ≡ false
       → (flush_whole (numbered_in registers m)).actions ≡ length (window_actions m.session)
   unfolding flush_whole
   whole fine f = let e = (flush_sound setup registers m fine).0 in rw e (ap length (until_all (window_worn m.session m.worn) (window_actions m.session) (rw e at f)))
@@ -202,7 +195,7 @@ module _ (setup : Setup) (registers : List ℕ) (m : Machine) where
   added true = refl
   added false = refl
 
-  flushed : (reason_in setup registers m ≡ System → ⊥) → command_of registers ≡ 8 → reason_in setup registers m ≡ Accepted
+  flushed : (reason_in setup registers m ≡ Err System → ⊥) → command_of registers ≡ 8 → reason_in setup registers m ≡ Accepted
       → (flushing m.session registers).marks ≡ m.session.marks
       → (flush_whole (holding (flushing (numbered m.session registers) registers) m)).failed ≡ false
       → (flush_whole (holding (flushing (numbered m.session registers) registers) m)).actions ≡ length (window_actions m.session)
@@ -231,16 +224,16 @@ module _ (setup : Setup) (registers : List ℕ) (m : Machine) where
       ap (λ (long : ℕ). (cond (ltb m.session.version 2 && not (eqb long 0)) (marked dirty m.session registers) m.session).marks) l
       ∙ ap (λ (t : Bool). (cond t (marked dirty m.session registers) m.session).marks) (and-false (ltb m.session.version 2)))
 
-  told : (reason_in setup registers m ≡ System → ⊥) → (mediate setup registers m).actions ≡ length (window_actions m.session) → Tells setup registers m
-  told fine e = pending_tells setup m (sounds_unless setup registers m fine) ∙ ap (Marked (marked_blocks m.session.marks)) (sym e)
+  told : (reason_in setup registers m ≡ Err System → ⊥) → (mediate setup registers m).actions ≡ length (window_actions m.session) → Tells setup registers m
+  told fine e = pending_tells setup m (sounds_unless setup registers m fine) ∙ ap (marked_work (marked_blocks m.session.marks)) (sym e)
 
-  other : {r : Reason} → (r ≡ System → ⊥) → reason_in setup registers m ≡ r → reason_in setup registers m ≡ System → ⊥
+  other : {r : Checked} → (r ≡ Err System → ⊥) → reason_in setup registers m ≡ r → reason_in setup registers m ≡ Err System → ⊥
   other n e q = n (sym e ∙ q)
 
 flush_carries : (setup : Setup) (registers : List ℕ) (m : Machine) → (response setup registers m ≡ 3 → ⊥) → reason_in setup registers m ≡ Accepted
     → command_of registers ≡ 8 → (flushing m.session registers).marks ≡ m.session.marks → Tells setup registers m
 flush_carries setup registers m other-code a c same =
-    let fine = other setup registers m (λ q. let z : ◌≡◌ {A = ℕ} 0 1 = cc in omega arith) a in
+    let fine = other setup registers m (λ q. cc) a in
     let f = flush_through setup registers m c a other-code in
     told setup registers m fine (f.1 ∙ flushed setup registers m fine c a same f.0)
 
@@ -249,16 +242,13 @@ pending_carried setup registers m other-code = (
   flush_carries setup registers m other-code,
   λ a c none. flush_carries setup registers m other-code a c (adds_none setup registers m none),
   λ a f.
-      let fine = other setup registers m (λ q. let z : ◌≡◌ {A = ℕ} 0 1 = cc in omega arith) a in
+      let fine = other setup registers m (λ q. cc) a in
       let t = subst (Through setup registers m (numbered_in registers m)) (sym (carried setup registers m (command_of registers) refl a)) (closing setup registers m (command_of registers) (sound_in setup m) a f) other-code in
       told setup registers m fine (t.1 ∙ whole setup registers m fine t.0),
   λ a c.
-      let fine = other setup registers m (λ q. let z : ◌≡◌ {A = ℕ} 0 1 = cc in omega arith) a in
+      let fine = other setup registers m (λ q. cc) a in
       let left = (refusals_as_said setup registers m).1 c a in
       told setup registers m fine
-      (ap (λ (o : Outcome). o.actions) left ∙ whole setup registers m fine (unless (flush_whole (numbered_in registers m)).failed (λ q. other-code (ap code_of left ∙ q)))),
+      (ap (λ (o : Outcome). o.actions) left ∙ whole setup registers m fine (false_from_ne_true (flush_whole (numbered_in registers m)).failed
+      (λ t. other-code (ap code_of left ∙ ap (λ (b : Bool). cond b 3 2) t)))),
 )
-  where
-    unless : (t : Bool) → (◌≡◌ {A = ℕ} (cond t 3 2) 3 → ⊥) → t ≡ false
-    unless true n = absurd (n refl)
-    unless false n = refl

@@ -1,14 +1,6 @@
 -- How far a flush comes, as the claims say it of the whole map and as the definitions say it of the window's part: of sound marks both say the same.
-use mathlib.Core.Path.{◌≡◌, refl, sym, ap, ◌∙◌}
-use mathlib.Core.Bool.{Bool, true, false, cond, not, ◌&&◌, ◌||◌}
-use mathlib.Core.List.{List, [], ◌∷◌, ◌++◌}
-use mathlib.Core.Logic.{⊎_elim}
-use Prim.Native.Nat.{ℕ, zero, suc, ◌+◌, ◌≤◌, ◌<◌}
-use native.Mathlib.Nat.{le_trans}
-use native.Mathlib.Omega.{arith}
-use lib.Dec.{leb, ltb, eqb}
-use lib.ListN.{length, get_or, take, drop, replicate, get_or-eq_default}
-use borrow.Author.Tests.{leb-true, lt-ltb}
+use Rattle.std.proofs.Common.{◌≡◌, refl, sym, ap, ◌∙◌, Bool, true, false, cond, not, ◌&&◌, ◌||◌, List, [], ◌∷◌, ◌++◌, ⊎_elim, ℕ, zero, suc, ◌+◌, ◌≤◌, ◌<◌, le_trans, arith, leb, ltb, eqb, length, get_or, take, drop, replicate, leb-true, lt-ltb}
+use lib.ListN.{get_or-eq_default}
 use Rattle.units.proofs.Cases.{decided, below_or, both}
 use Rattle.buffers.specs.Ranges.{range}
 use Rattle.buffers.proofs.Replace.{range_at}

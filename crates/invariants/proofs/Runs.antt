@@ -1,14 +1,6 @@
 -- What a run of any calls keeps: the claims stand in specs/Runs.antt.
-use mathlib.Core.Path.{◌≡◌, refl, sym, ap, subst, ◌∙◌}
-use mathlib.Core.Bool.{Bool, true, false, cond, not, ◌&&◌, false≢true}
-use mathlib.Core.List.{List, [], ◌∷◌}
-use mathlib.Core.Logic.{⊎_elim}
-use mathlib.Core.Option.{Option, none, some}
-use Prim.Native.Nat.{ℕ, ◌+◌, ◌≤◌, min}
-use native.Mathlib.Omega.{arith}
-use lib.Bits.{bit_and}
-use lib.ListN.{length, take, drop, length-append, length-take, length-drop}
-use lib.Seq.{take_all}
+use Rattle.std.proofs.Common.{◌≡◌, refl, sym, ap, subst, ◌∙◌, Bool, true, false, cond, not, ◌&&◌, List, [], ◌∷◌, ⊎_elim, ℕ, ◌+◌, ◌≤◌, min, arith, bit_and, length, take, drop, length-append, length-take, length-drop, take_all, Option, None, Some}
+use mathlib.Core.Bool.{false≢true}
 use Rattle.units.proofs.Cases.{decided, chosen}
 use Rattle.buffers.specs.Ranges.{replace}
 use Rattle.buffers.proofs.Replace.{replace_length}
@@ -29,8 +21,7 @@ use Rattle.flush.proofs.Failing.{until_first}
 use Rattle.flush.proofs.Cuts.{all_flush, all_take, all_drop}
 use Rattle.flush.proofs.Whole.{in_length}
 use Rattle.refusals.proofs.Accepting.{never_system}
-use Rattle.marklist.specs.declared.ListAnswer.{ListAnswer}
-use Rattle.marklist.specs.MarkList.{list_code, pairs_of, answer_for}
+use Rattle.marklist.specs.MarkList.{ListAnswer, list_code, pairs_of, answer_for}
 use Rattle.marklist.proofs.Taken.{list_left, list_answer, each_check, pairs_code}
 use Rattle.mailbox.specs.Mediator.{command_in, reason_of, reason_in, mediate}
 use Rattle.mailbox.specs.Runs.{Call, send, mark_list, suspend, resume, resume_changed, advance, write, alter, wear, written, called, called_all}
@@ -46,8 +37,8 @@ use Rattle.invariants.proofs.Kept.{command_keeps, list_keeps, access_keeps, fres
 
 -- a command, whether it carries out marks or not
 leaves_long : (t : Option Session) (flash worn memory after : List ℕ) (actions : ℕ) → Leaves t flash worn memory after actions → length after ≡ length flash
-leaves_long none flash worn memory after actions l = ap length l.0
-leaves_long (some s) flash worn memory after actions l = l.long
+leaves_long None flash worn memory after actions l = ap length l.0
+leaves_long (Some s) flash worn memory after actions l = l.long
 
 -- a step
 step_long : (m : Machine) (done : ℕ) → length (advanced m done).flash ≡ length m.flash
@@ -67,9 +58,9 @@ step_long m done =
         let all = all_flush s.size s.marks (marks_within s.window s.size s.marks f.marks) in
         let actions = window_actions s in
         let first = length (done_actions m) in
-        let some = subst (AllIn s.size) (sym (until_first (window_worn s m.worn) actions)) (all_take s.size first actions all) in
+        let begun = subst (AllIn s.size) (sym (until_first (window_worn s m.worn) actions)) (all_take s.size first actions all) in
         in_length s m.flash p.0 m.memory p.1 (take 1 (drop done (done_actions m)))
-        (all_take s.size 1 (drop done (done_actions m)) (all_drop s.size done (done_actions m) some))
+        (all_take s.size 1 (drop done (done_actions m)) (all_drop s.size done (done_actions m) begun))
 
 -- bytes that others write
 pub write_long : (at : ℕ) (bytes buffer : List ℕ) → length (written at bytes buffer) ≡ length buffer

@@ -1,14 +1,8 @@
 -- Worn blocks: the claims stand in specs/Worn.antt.
-use mathlib.Core.Path.{◌≡◌, refl, sym, ap, subst, ◌∙◌}
-use mathlib.Core.Bool.{Bool, true, false, cond, not, ◌&&◌, ◌||◌, true≢false, false≢true, and-false}
-use mathlib.Core.List.{List, [], ◌∷◌, ◌++◌}
-use mathlib.Core.Logic.{◌⊎◌, inl, inr, ⊎_elim}
-use mathlib.Core.Option.{Option, none, some}
-use Prim.Native.Nat.{ℕ, zero, suc, ◌+◌, ◌≤◌, ◌<◌, min}
-use native.Mathlib.Omega.{arith}
-use lib.Dec.{ltb, eqb}
-use lib.ListN.{length, get_or, take, drop, replicate, length-replicate, drop_of_length-le}
-use borrow.Author.Tests.{lt-ltb, le-ltb}
+use Rattle.std.proofs.Common.{◌≡◌, refl, sym, ap, subst, ◌∙◌, Bool, true, false, cond, not, ◌&&◌, ◌||◌, true≢false, List, [], ◌∷◌, ◌++◌, ◌⊎◌, inl, inr, ⊎_elim, ℕ, zero, suc, ◌+◌, ◌≤◌, ◌<◌, min, arith, ltb, eqb, length, get_or, take, drop, replicate, drop_of_length-le, lt-ltb, le-ltb, Option, None, Some, Err}
+use mathlib.Core.Bool.{false≢true, and-false}
+use Rattle.std.proofs.lemmas.Bool.{false_from_ne_true, true_from_ne_false}
+use lib.ListN.{length-replicate}
 use Rattle.units.specs.Units.{block_bytes, to_bytes, round_up}
 use Rattle.buffers.specs.Ranges.{range}
 use Rattle.units.proofs.Cases.{decided, chosen}
@@ -17,7 +11,6 @@ use Rattle.session.specs.declared.Window.{Window}
 use Rattle.session.specs.declared.Window.TheVariants.{Read, Write}
 use Rattle.session.specs.Machine.{Setup, Machine, lent, holding, wearing}
 use Rattle.session.specs.Marks.{dirty, is_marked}
-use Rattle.session.specs.declared.Previous.TheVariants.{Number}
 use Rattle.session.specs.Record.{clean, with_previous, with_marks}
 use Rattle.soundness.specs.Soundness.{marks_sound, session_sound, sound, sound_at, sound_in}
 use Rattle.soundness.proofs.Facts.{sizes}
@@ -29,10 +22,9 @@ use Rattle.flush.proofs.Cuts.{all_flush, all_take}
 use Rattle.flush.proofs.Failing.{until_all, until_first, some_none, done_and_kept}
 use Rattle.flush.proofs.Lists.{flush_count, flush_unmarked}
 use Rattle.flush.proofs.Whole.{in_none, in_same, in_append}
-use Rattle.refusals.specs.declared.Reason.{Reason}
-use Rattle.refusals.specs.declared.Reason.TheVariants.{Accepted, System, Repeated, Unknown, Suspended, Windowless, Argument}
+use Rattle.refusals.specs.declared.Reason.TheVariants.{System, Repeated, Unknown, Suspended, Windowless, Argument}
 use Rattle.refusals.specs.declared.Needs.TheVariants.{Access}
-use Rattle.refusals.specs.Refusals.{is_write, flush_marks, reason_for, code_for}
+use Rattle.refusals.specs.Refusals.{Checked, Accepted, is_write, flush_marks, reason_for, code_for}
 use Rattle.refusals.proofs.Accepting.{passed}
 use Rattle.registers.specs.Registers.{command_of, sequence_of, argument, number, bytes_of, padded, reply}
 use Rattle.marklist.specs.MarkList.{answer_for, listed}
@@ -51,14 +43,13 @@ use Rattle.invariants.proofs.Kept.{flush_sound}
 use Rattle.invariants.proofs.MarksKept.{cleared_sound}
 use Rattle.invariants.proofs.Marks.{create_either, one_three, three_one}
 use Rattle.invariants.proofs.Refused.{refusals_as_said}
-use Rattle.invariants.proofs.Succeeding.{accepted}
+use Rattle.invariants.proofs.Succeeding.{neither, accepted}
 use Rattle.invariants.proofs.Reach.{kept_is, meets_is, zeros_at, none_failed}
 
 -- ---- the map
 unmapped : (flash worn memory : ℕ) (s : Session) → (worn ≡ round_up flash → ⊥) → sound flash worn memory s ≡ false
 unmapped flash worn memory s apart =
-    ⊎_elim (λ (e : sound flash worn memory s ≡ true). absurd (apart (sizes flash worn memory s e).3)) (λ (e : sound flash worn memory s ≡ false). e)
-    (decided (sound flash worn memory s))
+    false_from_ne_true (sound flash worn memory s) (λ e. apart (sizes flash worn memory s e).3)
 
 pub map_refused : MapRefused
 unfolding sound_at reason_for answer_for listed advanced
@@ -86,15 +77,15 @@ module _ (s : Session) (flash worn memory : List ℕ) (e : sound (length flash) 
   -- a window that is closed is flushed if it is a write window, and only then has marks
   unmarked_meets : is_write s.window ≡ false → meets worn s.first s.marks ≡ false
   unmarked_meets w =
-      let none = flush_unmarked s.marks (rw (not_markable s.window s.size w) at (fit s flash worn memory e).marks) in
+      let clear = flush_unmarked s.marks (rw (not_markable s.window s.size w) at (fit s flash worn memory e).marks) in
       meets_is worn s.first s.size s.marks (window_marks s flash worn memory e)
-      ∙ ap (some_fail (window_worn s worn)) none
+      ∙ ap (some_fail (window_worn s worn)) clear
       ∙ some_none (window_worn s worn)
 
   closes_fail : (flush_whole (lent s flash worn memory)).failed ≡ failing worn (at_close s)
   closes_fail =
       fails_is
-      ∙ chosen (λ (o : Option Session). meets worn s.first s.marks ≡ failing worn o) (is_write s.window) (some s) none (λ _. refl) unmarked_meets
+      ∙ chosen (λ (o : Option Session). meets worn s.first s.marks ≡ failing worn o) (is_write s.window) (Some s) None (λ _. refl) unmarked_meets
 
 -- ---- a code of 3, exactly where a test holds
 abbrev Exactly : Bool → Outcome → Type 0
@@ -122,10 +113,6 @@ two_three q = omega arith
 four_three : ◌≡◌ {A = ℕ} 4 3 → ⊥
 four_three q = omega arith
 
-neither : (a b : ℕ) → (a ≡ 3 → ⊥) → (b ≡ 3 → ⊥) → (t : Bool) → cond t a b ≡ 3 → ⊥
-neither a b p q true e = p e
-neither a b p q false e = q e
-
 module _ (setup : Setup) (registers : List ℕ) (m : Machine) where
   abbrev s : Session
   s = m.session
@@ -137,10 +124,10 @@ module _ (setup : Setup) (registers : List ℕ) (m : Machine) where
   abbrev adding : Session
   adding = flushing (numbered s registers) registers
 
-  close_fails : (reason_in setup registers m ≡ System → ⊥) → (flush_whole next).failed ≡ failing m.worn (at_close s)
+  close_fails : (reason_in setup registers m ≡ Err System → ⊥) → (flush_whole next).failed ≡ failing m.worn (at_close s)
   close_fails fine = closes_fail (numbered s registers) m.flash m.worn m.memory (flush_sound setup registers m fine).0 ∙ same (is_write s.window)
     where
-      same : (writes : Bool) → failing m.worn (cond writes (some (numbered s registers)) none) ≡ failing m.worn (cond writes (some s) none)
+      same : (writes : Bool) → failing m.worn (cond writes (Some (numbered s registers)) None) ≡ failing m.worn (cond writes (Some s) None)
       same true = refl
       same false = refl
 
@@ -152,9 +139,9 @@ module _ (setup : Setup) (registers : List ℕ) (m : Machine) where
 
   module _ (c : command_of registers ≡ 8) (a : reason_in setup registers m ≡ Accepted) where
     adding_sound : sound (length m.flash) (length m.worn) (length m.memory) adding ≡ true
-    adding_sound = (flush_sound setup registers m (λ q. let z : ◌≡◌ {A = ℕ} 0 1 = cc (sym a ∙ q) in omega arith)).1 c a
+    adding_sound = (flush_sound setup registers m (λ q. cc)).1 c a
 
-    flush_fails_lem : (flush_whole (holding adding m)).failed ≡ failing m.worn (some (flushing s registers))
+    flush_fails_lem : (flush_whole (holding adding m)).failed ≡ failing m.worn (Some (flushing s registers))
     flush_fails_lem = fails_is adding m.flash m.worn m.memory adding_sound ∙ added_meets (flush_marks s registers)
 
   -- a command that no check refused, by its row
@@ -163,8 +150,8 @@ module _ (setup : Setup) (registers : List ℕ) (m : Machine) where
       command_of registers ≡ n → reason_in setup registers m ≡ Accepted → reason_of c (sound_in setup m) registers m ≡ Accepted
       → Either (failing m.worn (flushed_by n s registers)) (c.leaves setup registers next)
 
-  accepted_fine : reason_in setup registers m ≡ Accepted → reason_in setup registers m ≡ System → ⊥
-  accepted_fine a q = let z : ◌≡◌ {A = ℕ} 0 1 = cc (sym a ∙ q) in omega arith
+  accepted_fine : reason_in setup registers m ≡ Accepted → reason_in setup registers m ≡ Err System → ⊥
+  accepted_fine a q = cc
 
   served_create : (w : Window) → reason_in setup registers m ≡ Accepted → Either (failing m.worn (at_close s)) (created w setup registers next)
   served_create w a =
@@ -182,9 +169,9 @@ module _ (setup : Setup) (registers : List ℕ) (m : Machine) where
       close_ends (Either b) registers next (λ f. is_three b (stopped registers next) (sym is ∙ f) refl) (λ f. is_one b (closing 1 registers next) (sym is ∙ f) refl)
 
   served_flush : command_of registers ≡ 8 → reason_in setup registers m ≡ Accepted
-      → Either (failing m.worn (some (flushing s registers))) (flushed_all registers (holding adding m))
+      → Either (failing m.worn (Some (flushing s registers))) (flushed_all registers (holding adding m))
   served_flush c a =
-      let b = failing m.worn (some (flushing s registers)) in
+      let b = failing m.worn (Some (flushing s registers)) in
       let is = flush_fails_lem c a in
       flush_ends (Either b) registers (holding adding m) (λ f. is_three b (stopped registers (holding adding m)) (sym is ∙ f) refl)
       (λ f. is_one b (flushed_through registers (holding adding m)) (sym is ∙ f) refl)
@@ -211,7 +198,7 @@ module _ (setup : Setup) (registers : List ℕ) (m : Machine) where
       no shown c = (λ t. absurd (false≢true t), λ _. c)
 
   -- a refusal for an argument
-  broken_create : (reason_in setup registers m ≡ System → ⊥) → Exactly (failing m.worn (at_close s)) (closing (cond (flush_whole next).failed 3 2) registers next)
+  broken_create : (reason_in setup registers m ≡ Err System → ⊥) → Exactly (failing m.worn (at_close s)) (closing (cond (flush_whole next).failed 3 2) registers next)
   broken_create fine =
       subst (λ (b : Bool). Exactly b (closing (cond (flush_whole next).failed 3 2) registers next)) (close_fails fine) (by (flush_whole next).failed)
     where
@@ -221,9 +208,9 @@ module _ (setup : Setup) (registers : List ℕ) (m : Machine) where
 
   abbrev Broken : ℕ → Command → Type 0
   Broken n c =
-      reason_of c (sound_in setup m) registers m ≡ Argument → Exactly (failing m.worn (cond (is_create n) (at_close s) none)) (c.when_broken 2 registers next)
+      reason_of c (sound_in setup m) registers m ≡ Err Argument → Exactly (failing m.worn (cond (is_create n) (at_close s) None)) (c.when_broken 2 registers next)
 
-  broken_exactly : (reason_in setup registers m ≡ System → ⊥) → (n : ℕ) → Broken n (command_at n)
+  broken_exactly : (reason_in setup registers m ≡ Err System → ⊥) → (n : ℕ) → Broken n (command_at n)
   broken_exactly fine =
       let no = not_three false (refused 2 registers next) refl two_three in
       each_command Broken
@@ -231,16 +218,16 @@ module _ (setup : Setup) (registers : List ℕ) (m : Machine) where
       (λ n a. absurd (false≢true (argument_late (sound_in setup m) s registers false Access false a).1))
 
   -- whatever the first check that refuses
-  answered : (r : Reason) → reason_in setup registers m ≡ r
+  answered : (r : Checked) → reason_in setup registers m ≡ r
       → Exactly (failing m.worn (flushed_for r s registers)) (answer_to r (command_in registers) setup registers m)
   unfolding answer_to
   answered Accepted a = exactly (failing m.worn (flushed_for Accepted s registers)) ((command_in registers).leaves setup registers next) (served_exactly (command_of registers) refl a a)
-  answered System a = not_three false (refused 4 registers m) refl four_three
-  answered Repeated a = not_three false (refused (code_for s.version Repeated) registers next) refl (neither 2 8 (λ q. omega arith) (λ q. omega arith) (ltb s.version 2))
-  answered Unknown a = not_three false (refused 2 registers next) refl two_three
-  answered Suspended a = not_three false (refused (code_for s.version Suspended) registers next) refl (neither 5 6 (λ q. omega arith) (λ q. omega arith) (ltb s.version 2))
-  answered Windowless a = not_three false (refused (code_for s.version Windowless) registers next) refl (neither 2 7 (λ q. omega arith) (λ q. omega arith) (ltb s.version 2))
-  answered Argument a = broken_exactly (λ q. let z : ◌≡◌ {A = ℕ} 0 1 = cc (sym a ∙ q) in omega arith) (command_of registers) a
+  answered (Err System) a = not_three false (refused 4 registers m) refl four_three
+  answered (Err Repeated) a = not_three false (refused (code_for s.version (Err Repeated)) registers next) refl (neither 3 2 8 (λ q. omega arith) (λ q. omega arith) (ltb s.version 2))
+  answered (Err Unknown) a = not_three false (refused 2 registers next) refl two_three
+  answered (Err Suspended) a = not_three false (refused (code_for s.version (Err Suspended)) registers next) refl (neither 3 5 6 (λ q. omega arith) (λ q. omega arith) (ltb s.version 2))
+  answered (Err Windowless) a = not_three false (refused (code_for s.version (Err Windowless)) registers next) refl (neither 3 2 7 (λ q. omega arith) (λ q. omega arith) (ltb s.version 2))
+  answered (Err Argument) a = broken_exactly (λ q. cc) (command_of registers) a
 
 pub write_error_exactly : WriteErrorExactly
 unfolding mediate obeyed answer_to
@@ -253,34 +240,32 @@ write_error_exactly setup registers m =
 
 -- ---- what is left
 -- a flush fails only where no check refuses a command, or the last one a create
-failing_for : (worn : List ℕ) (r : Reason) (s : Session) (registers : List ℕ) → failing worn (flushed_for r s registers) ≡ true
-    → (r ≡ Accepted) ⊎ ((r ≡ Argument) × (is_create (command_of registers) ≡ true))
+failing_for : (worn : List ℕ) (r : Checked) (s : Session) (registers : List ℕ) → failing worn (flushed_for r s registers) ≡ true
+    → (r ≡ Accepted) ⊎ ((r ≡ Err Argument) × (is_create (command_of registers) ≡ true))
 failing_for worn Accepted s registers f = inl refl
-failing_for worn System s registers f = absurd (false≢true f)
-failing_for worn Repeated s registers f = absurd (false≢true f)
-failing_for worn Unknown s registers f = absurd (false≢true f)
-failing_for worn Suspended s registers f = absurd (false≢true f)
-failing_for worn Windowless s registers f = absurd (false≢true f)
-failing_for worn Argument s registers f =
+failing_for worn (Err System) s registers f = absurd (false≢true f)
+failing_for worn (Err Repeated) s registers f = absurd (false≢true f)
+failing_for worn (Err Unknown) s registers f = absurd (false≢true f)
+failing_for worn (Err Suspended) s registers f = absurd (false≢true f)
+failing_for worn (Err Windowless) s registers f = absurd (false≢true f)
+failing_for worn (Err Argument) s registers f =
     ⊎_elim
     (λ (c : is_create (command_of registers) ≡ true). inr (refl, c))
-    (λ (c : is_create (command_of registers) ≡ false). absurd (false≢true (sym (ap (λ (t : Bool). failing worn (cond t (at_close s) none)) c) ∙ f)))
+    (λ (c : is_create (command_of registers) ≡ false). absurd (false≢true (sym (ap (λ (t : Bool). failing worn (cond t (at_close s) None)) c) ∙ f)))
     (decided (is_create (command_of registers)))
 
 module _ (setup : Setup) (registers : List ℕ) (m : Machine) (three : response setup registers m ≡ 3) where
   -- it does
   does : failing m.worn (flushed_for (reason_in setup registers m) m.session registers) ≡ true
   does =
-      ⊎_elim
-      (λ (t : failing m.worn (flushed_for (reason_in setup registers m) m.session registers) ≡ true). t)
-      (λ (f : failing m.worn (flushed_for (reason_in setup registers m) m.session registers) ≡ false). absurd ((write_error_exactly setup registers m).1 f three))
-      (decided (failing m.worn (flushed_for (reason_in setup registers m) m.session registers)))
+      true_from_ne_false (failing m.worn (flushed_for (reason_in setup registers m) m.session registers))
+      (λ f. (write_error_exactly setup registers m).1 f three)
 
-  pub three_for : (reason_in setup registers m ≡ Accepted) ⊎ ((reason_in setup registers m ≡ Argument) × (is_create (command_of registers) ≡ true))
+  pub three_for : (reason_in setup registers m ≡ Accepted) ⊎ ((reason_in setup registers m ≡ Err Argument) × (is_create (command_of registers) ≡ true))
   three_for = failing_for m.worn (reason_in setup registers m) m.session registers does
 
   pub three_accepted : is_create (command_of registers) ≡ false → reason_in setup registers m ≡ Accepted
-  three_accepted n = ⊎_elim (λ a. a) (λ (p : (reason_in setup registers m ≡ Argument) × (is_create (command_of registers) ≡ true)). absurd (false≢true (sym n ∙ p.1))) three_for
+  three_accepted n = ⊎_elim (λ a. a) (λ (p : (reason_in setup registers m ≡ Err Argument) × (is_create (command_of registers) ≡ true)). absurd (false≢true (sym n ∙ p.1))) three_for
 
   -- what a FLUSH leaves, by the session that it works from
   pub flush_left_lem : (c : command_of registers ≡ 8) (a : reason_in setup registers m ≡ Accepted)
@@ -289,11 +274,10 @@ module _ (setup : Setup) (registers : List ℕ) (m : Machine) (three : response 
   flush_left_lem c a =
       let t = holding (adding setup registers m) m in
       let left = carried setup registers m 8 c a in
-      let f = fails (λ f. sym (ap code_of (left ∙ ap (λ (b : Bool). cond b (stopped registers t) (flushed_through registers t)) f)) ∙ three) in
+      let f =
+      true_from_ne_false (flush_whole t).failed
+      (λ f. one_three (sym (ap code_of (left ∙ ap (λ (b : Bool). cond b (stopped registers t) (flushed_through registers t)) f)) ∙ three)) in
       (f, left ∙ ap (λ (b : Bool). cond b (stopped registers t) (flushed_through registers t)) f)
-    where
-      fails : {b : Bool} → (b ≡ false → ◌≡◌ {A = ℕ} 1 3) → b ≡ true
-      fails {b} n = ⊎_elim (λ t. t) (λ f. absurd (one_three (n f))) (decided b)
 
   -- and a CLOSE_WINDOW
   pub close_left : (c : command_of registers ≡ 5) (a : reason_in setup registers m ≡ Accepted)
@@ -302,11 +286,10 @@ module _ (setup : Setup) (registers : List ℕ) (m : Machine) (three : response 
   close_left c a =
       let t = numbered_in registers m in
       let left = carried setup registers m 5 c a in
-      let f = fails (λ f. sym (ap code_of (left ∙ ap (λ (b : Bool). cond b (stopped registers t) (closing 1 registers t)) f)) ∙ three) in
+      let f =
+      true_from_ne_false (flush_whole t).failed
+      (λ f. one_three (sym (ap code_of (left ∙ ap (λ (b : Bool). cond b (stopped registers t) (closing 1 registers t)) f)) ∙ three)) in
       (f, left ∙ ap (λ (b : Bool). cond b (stopped registers t) (closing 1 registers t)) f)
-    where
-      fails : {b : Bool} → (b ≡ false → ◌≡◌ {A = ℕ} 1 3) → b ≡ true
-      fails {b} n = ⊎_elim (λ t. t) (λ f. absurd (one_three (n f))) (decided b)
 
   -- and a create, also one that is refused for its argument
   pub create_left : is_create (command_of registers) ≡ true → mediate setup registers m ≡ closing 3 registers (numbered_in registers m)
@@ -317,7 +300,7 @@ module _ (setup : Setup) (registers : List ℕ) (m : Machine) (three : response 
       (λ (a : reason_in setup registers m ≡ Accepted).
       create_either (λ _. mediate setup registers m ≡ closing 3 registers t) (command_of registers) c
       (λ e. opens Read (carried setup registers m 4 e a)) (λ e. opens Write (carried setup registers m 6 e a)))
-      (λ (p : (reason_in setup registers m ≡ Argument) × (is_create (command_of registers) ≡ true)).
+      (λ (p : (reason_in setup registers m ≡ Err Argument) × (is_create (command_of registers) ≡ true)).
       let left = (refusals_as_said setup registers m).1 p.1 p.0 in
       left ∙ ap (λ (code : ℕ). closing code registers t) (sym (ap code_of left) ∙ three))
       three_for
@@ -333,7 +316,7 @@ module _ (setup : Setup) (registers : List ℕ) (m : Machine) (three : response 
 
 -- the session that a FLUSH leaves, with or without marks of its own
 added_left : (s : Session) (registers marks : List ℕ) (adds : Bool)
-    → (with_marks marks (cond adds (marked dirty (numbered s registers) registers) (numbered s registers)) ≡ with_previous (Number (sequence_of registers)) (with_marks marks s))
+    → (with_marks marks (cond adds (marked dirty (numbered s registers) registers) (numbered s registers)) ≡ with_previous (Some (sequence_of registers)) (with_marks marks s))
     × ((cond adds (marked dirty (numbered s registers) registers) (numbered s registers)).first ≡ s.first)
     × ((cond adds (marked dirty (numbered s registers) registers) (numbered s registers)).marks ≡ (cond adds (marked dirty s registers) s).marks)
 added_left s registers marks true = (refl, refl, refl)
@@ -359,7 +342,7 @@ failed_as_said setup registers m three = (
         left =
             ap (λ (o : Outcome). o.machine.session) left.1
             ∙ session
-            ∙ ap (λ (ms : List ℕ). with_previous (Number (sequence_of registers)) (with_marks ms m.session)) same;
+            ∙ ap (λ (ms : List ℕ). with_previous (Some (sequence_of registers)) (with_marks ms m.session)) same;
         memory_same = ap (λ (o : Outcome). o.machine.memory) left.1;
         map_same = ap (λ (o : Outcome). o.machine.worn) left.1;
       },
@@ -370,7 +353,7 @@ failed_as_said setup registers m three = (
       let same = kept_left (numbered m.session registers) m.flash m.worn m.memory (flush_sound setup registers m fine).0 left.0 in
       record {
         shown = ap (λ (o : Outcome). o.registers) left.1;
-        left = ap (λ (o : Outcome). o.machine.session) left.1 ∙ ap (λ (ms : List ℕ). with_previous (Number (sequence_of registers)) (with_marks ms m.session)) same;
+        left = ap (λ (o : Outcome). o.machine.session) left.1 ∙ ap (λ (ms : List ℕ). with_previous (Some (sequence_of registers)) (with_marks ms m.session)) same;
         memory_same = ap (λ (o : Outcome). o.machine.memory) left.1;
         map_same = ap (λ (o : Outcome). o.machine.worn) left.1;
       },
@@ -389,7 +372,7 @@ pub refused_create_as_said : RefusedCreateAsSaid
 refused_create_as_said setup registers m c a =
     let left = (refusals_as_said setup registers m).1 c a in
     let code : ◌≡◌ {A = ℕ} (cond (flush_whole (numbered_in registers m)).failed 3 2) (cond (failing m.worn (at_close m.session)) 3 2) =
-    ap (λ (b : Bool). cond b 3 2) (close_fails setup registers m (λ q. let z : ◌≡◌ {A = ℕ} 0 1 = cc (sym a ∙ q) in omega arith)) in
+    ap (λ (b : Bool). cond b 3 2) (close_fails setup registers m (λ q. cc)) in
     let is = left ∙ ap (λ (n : ℕ). closing n registers (numbered_in registers m)) code in
     record {
       shown = ap (λ (o : Outcome). o.registers) is;
@@ -479,8 +462,8 @@ good_meets worn good c (mark ∷ marks) =
     here = ap (λ (byte : ℕ). not (eqb mark 0) && not (eqb byte 0)) (good c) ∙ and-false (not (eqb mark 0))
 
 good_failing : (worn : List ℕ) → AllGood worn → (o : Option Session) → failing worn o ≡ false
-good_failing worn good none = refl
-good_failing worn good (some s) = good_meets worn good s.first s.marks
+good_failing worn good None = refl
+good_failing worn good (Some s) = good_meets worn good s.first s.marks
 
 -- a flush that meets no worn block does all of its actions
 module _ (s : Session) (flash worn memory : List ℕ) (e : sound (length flash) (length worn) (length memory) s ≡ true) (good : meets worn s.first s.marks ≡ false) where
@@ -496,7 +479,7 @@ module _ (s : Session) (flash worn memory : List ℕ) (e : sound (length flash) 
 
 -- what is done goes by the window's place and size, and the number has no part in it
 folded_as : (s t : Session) (flash memory after : List ℕ) (actions : ℕ) → t.first ≡ s.first → t.size ≡ s.size → t.marks ≡ s.marks
-    → (after ≡ perform_in t memory (window_actions t) flash) × (actions ≡ length (window_actions t)) → Folded (some s) flash memory after actions
+    → (after ≡ perform_in t memory (window_actions t) flash) × (actions ≡ length (window_actions t)) → Folded (Some s) flash memory after actions
 folded_as s t flash memory after actions f z m d = (
   d.0 ∙ in_same t s f z memory (window_actions t) flash ∙ ap (λ (marks : List ℕ). perform_in s memory (flush_actions marks) flash) m,
   d.1 ∙ ap (λ (marks : List ℕ). length (flush_actions marks)) m,
@@ -523,12 +506,12 @@ module _ (setup : Setup) (s : Session) (registers flash worn memory : List ℕ) 
       let t = numbered s registers in
       let after = (flush_whole (lent t flash worn memory)).flash in
       let actions = (flush_whole (lent t flash worn memory)).actions in
-      chosen (λ (o : Option Session). Folded o flash memory after actions) (is_write s.window) (some s) none
+      chosen (λ (o : Option Session). Folded o flash memory after actions) (is_write s.window) (Some s) None
       (λ _. folded_as s t flash memory after actions refl refl refl (folds t flash worn memory e (good_meets worn good s.first s.marks)))
       (λ w. nothing t flash worn memory e w)
 
   flushed_folds : sound (length flash) (length worn) (length memory) (flushing (numbered s registers) registers) ≡ true
-      → Folded (some (flushing s registers)) flash memory (flush_whole (lent (flushing (numbered s registers) registers) flash worn memory)).flash
+      → Folded (Some (flushing s registers)) flash memory (flush_whole (lent (flushing (numbered s registers) registers) flash worn memory)).flash
       (flush_whole (lent (flushing (numbered s registers) registers) flash worn memory)).actions
   flushed_folds e =
       let t = flushing (numbered s registers) registers in

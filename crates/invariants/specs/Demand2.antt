@@ -1,17 +1,15 @@
 -- Demand 2's last sentence, said of every command: "The two window marks are carried out as it says: dirty blocks become the window's bytes,
 -- erased blocks become FF." Of the chip actions only the number is told. Proved in proofs/Demand2.antt.
-use Rattle.std.specs.Prelude.{◌≡◌, Bool, cond, not, ◌&&◌, ◌||◌, List, [], ◌∷◌, ℕ, suc, ◌+◌, ◌-◌, ◌*◌, ◌≤◌, ◌<◌, leb, ltb, eqb, length, get_or}
-use Rattle.std.proofs.Math.Option.{Option, none, some}
+use Rattle.std.specs.Prelude.{Option, None, Some, Err, ◌≡◌, Bool, cond, not, ◌&&◌, ◌||◌, List, [], ◌∷◌, ℕ, suc, ◌+◌, ◌-◌, ◌*◌, ◌≤◌, ◌<◌, leb, ltb, eqb, length, get_or}
 use Rattle.units.specs.Units.{to_bytes, block_holding}
 use Rattle.session.specs.declared.Session.{Session}
 use Rattle.session.specs.Machine.{Setup, Machine}
 use Rattle.session.specs.Marks.{dirty, erased_mark, marks_of}
 use Rattle.session.specs.Record.{with_marks}
 use Rattle.flush.specs.Window.{part_end}
-use Rattle.refusals.specs.declared.Reason.{Reason}
-use Rattle.refusals.specs.declared.Reason.TheVariants.{Accepted, System, Repeated, Unknown, Suspended, Windowless, Argument}
+use Rattle.refusals.specs.declared.Reason.TheVariants.{System, Repeated, Unknown, Suspended, Windowless, Argument}
 use Rattle.registers.specs.Registers.{command_of}
-use Rattle.refusals.specs.Refusals.{is_write}
+use Rattle.refusals.specs.Refusals.{Checked, Accepted, is_write}
 use Rattle.mailbox.specs.Commands.{flushing}
 use Rattle.mailbox.specs.Table.{close_window, flush}
 use Rattle.mailbox.specs.Mediator.{reason_in, mediate}
@@ -21,24 +19,24 @@ use Rattle.invariants.specs.Codes.{is_create}
 
 -- a window that is closed is "flushed if it is a write window"
 abbrev pub at_close : Session → Option Session
-at_close s = cond (is_write s.window) (some s) none
+at_close s = cond (is_write s.window) (Some s) None
 
 -- a command that no check refused: a create closes the active window first, CLOSE_WINDOW closes it, and FLUSH adds its own blocks, "marked as in
 -- MARK_DIRTY", before; no other command flushes
 abbrev pub flushed_by : ℕ → Session → List ℕ → Option Session
 flushed_by code s registers =
-    cond (is_create code || eqb code close_window.code) (at_close s) (cond (eqb code flush.code) (some (flushing s registers)) none)
+    cond (is_create code || eqb code close_window.code) (at_close s) (cond (eqb code flush.code) (Some (flushing s registers)) None)
 
 -- a refusal "changes nothing but the previous sequence number", but "a create refused for its argument has already closed and flushed the old
 -- window"
-abbrev pub flushed_for : Reason → Session → List ℕ → Option Session
+abbrev pub flushed_for : Checked → Session → List ℕ → Option Session
 flushed_for Accepted s registers = flushed_by (command_of registers) s registers
-flushed_for System s registers = none
-flushed_for Repeated s registers = none
-flushed_for Unknown s registers = none
-flushed_for Suspended s registers = none
-flushed_for Windowless s registers = none
-flushed_for Argument s registers = cond (is_create (command_of registers)) (at_close s) none
+flushed_for (Err System) s registers = None
+flushed_for (Err Repeated) s registers = None
+flushed_for (Err Unknown) s registers = None
+flushed_for (Err Suspended) s registers = None
+flushed_for (Err Windowless) s registers = None
+flushed_for (Err Argument) s registers = cond (is_create (command_of registers)) (at_close s) None
 
 -- ---- how far a flush comes
 
@@ -82,8 +80,8 @@ pub record CarriedOut (s : Session) (flash memory after : List ℕ) (actions : �
 
 -- what a flush carries out, or nothing carried out: the flash is as it was, and the number "0 if it flushes nothing"
 abbrev pub Leaves : Option Session → List ℕ → List ℕ → List ℕ → List ℕ → ℕ → Type 0
-Leaves none flash worn memory after actions = (after ≡ flash) × (actions ≡ 0)
-Leaves (some s) flash worn memory after actions = CarriedOut (reaching worn s) flash memory after actions
+Leaves None flash worn memory after actions = (after ≡ flash) × (actions ≡ 0)
+Leaves (Some s) flash worn memory after actions = CarriedOut (reaching worn s) flash memory after actions
 
 -- the claim, of every command: any content of the registers, any session, buffers and map, sound or not
 abbrev pub Demand2 : Type 0

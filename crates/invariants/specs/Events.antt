@@ -1,12 +1,12 @@
 -- The event byte, with the papers' own numbers: document 02, Ticket 1. Proved in proofs/Events.antt.
-use Rattle.std.specs.Prelude.{◌≡◌, true, false, List, ℕ, ◌-◌, get_or}
+use Rattle.std.specs.Prelude.{Err, ◌≡◌, true, false, List, ℕ, ◌-◌, get_or}
 use Rattle.std.specs.Int.Bits.{bit_and}
 use Rattle.session.specs.Events.{is_set}
 use Rattle.session.specs.Machine.{Setup, Machine}
 use Rattle.soundness.specs.Soundness.{sound_in}
 use Rattle.flush.specs.Window.{advanced}
-use Rattle.refusals.specs.declared.Reason.TheVariants.{Accepted, System}
-use Rattle.refusals.specs.Refusals.{is_previous}
+use Rattle.refusals.specs.declared.Reason.TheVariants.{System}
+use Rattle.refusals.specs.Refusals.{Accepted, is_previous}
 use Rattle.registers.specs.Registers.{command_of, sequence_of, argument}
 use Rattle.marklist.specs.MarkList.{list_code, listed_in}
 use Rattle.mailbox.specs.Mediator.{reason_in, mediate}
@@ -39,6 +39,6 @@ EventsShown = (setup : Setup) (registers : List ℕ) (m : Machine) → get_or (m
 abbrev pub DisagreeingRefused : Type 0
 DisagreeingRefused =
     (setup : Setup) (registers : List ℕ) (m : Machine) → (is_set 0x40 m.session.events ≡ m.session.suspended → ⊥)
-    → (reason_in setup registers m ≡ System)
+    → (reason_in setup registers m ≡ Err System)
     × ((list : List ℕ) → list_code (listed_in setup list m).answer ≡ 4)
     × ((done : ℕ) → advanced m done ≡ record { code = 4; yes = false; flash = m.flash })

@@ -1,12 +1,13 @@
 -- A sound session stays sound, call by call; Runs.antt has it of any list of calls, with the lengths of the buffers. Proved in proofs/Kept.antt.
-use Rattle.std.specs.Prelude.{◌≡◌, true, List, ℕ, ◌+◌, ◌*◌, ◌≤◌, length}
+use Rattle.std.specs.Prelude.{Err, ◌≡◌, true, List, ℕ, ◌+◌, ◌*◌, ◌≤◌, length}
 use Rattle.units.specs.Units.{round_up}
 use Rattle.session.specs.declared.Session.{Session}
 use Rattle.session.specs.Machine.{Setup, Machine}
 use Rattle.session.specs.Record.{fresh}
 use Rattle.soundness.specs.Soundness.{sizes_sound, sound, sound_at, sound_in}
 use Rattle.session.specs.Suspension.{suspended, resumed, resumed_changed}
-use Rattle.refusals.specs.declared.Reason.TheVariants.{Accepted, System}
+use Rattle.refusals.specs.declared.Reason.TheVariants.{System}
+use Rattle.refusals.specs.Refusals.{Accepted}
 use Rattle.registers.specs.Registers.{command_of}
 use Rattle.marklist.specs.MarkList.{listed_in}
 use Rattle.mailbox.specs.Commands.{numbered, flushing}
@@ -48,7 +49,7 @@ AccessKeeps =
 -- refused for its argument, and that of an accepted FLUSH with its own marks
 abbrev pub FlushSound : Type 0
 FlushSound =
-    (setup : Setup) (registers : List ℕ) (m : Machine) → (reason_in setup registers m ≡ System → ⊥)
+    (setup : Setup) (registers : List ℕ) (m : Machine) → (reason_in setup registers m ≡ Err System → ⊥)
     → (sound (length m.flash) (length m.worn) (length m.memory) (numbered m.session registers) ≡ true)
     × (command_of registers ≡ flush.code → reason_in setup registers m ≡ Accepted
     → sound (length m.flash) (length m.worn) (length m.memory) (flushing (numbered m.session registers) registers) ≡ true)

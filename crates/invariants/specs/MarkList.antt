@@ -1,7 +1,5 @@
 -- A list of marks in one call, with the papers' own numbers, and beside the single commands: document 02, Ticket 4. Proved in proofs/MarkList.antt.
-use Rattle.std.specs.Prelude.{◌≡◌, Bool, true, false, cond, List, [], ◌∷◌, ◌⊎◌, ℕ, zero, suc, ◌%◌, ◌≤◌, ◌<◌, length, get_or}
-use Rattle.session.specs.declared.Previous.{Previous}
-use Rattle.session.specs.declared.Previous.TheVariants.{Number}
+use Rattle.std.specs.Prelude.{Option, Some, ◌≡◌, Bool, true, false, cond, List, [], ◌∷◌, ◌⊎◌, ℕ, zero, suc, ◌%◌, ◌≤◌, ◌<◌, length, get_or}
 use Rattle.session.specs.Machine.{Setup, Machine, holding}
 use Rattle.session.specs.Record.{with_previous, with_counted}
 use Rattle.soundness.specs.Soundness.{sound_in}
@@ -73,10 +71,10 @@ FailAt zero setup (registers ∷ sent) m = response setup registers m ≡ 2
 FailAt (suc place) setup (registers ∷ sent) m = (response setup registers m ≡ 1) × FailAt place setup sent (mediate setup registers m).machine
 
 -- numbers that never repeat the one before, the first of them not the session's previous one
-abbrev pub NeverRepeat : Previous → List (List ℕ) → Type 0
+abbrev pub NeverRepeat : Option ℕ → List (List ℕ) → Type 0
 NeverRepeat previous [] = Unit
 NeverRepeat previous (registers ∷ sent) =
-    (is_previous previous (sequence_of registers) ≡ false) × NeverRepeat (Number (sequence_of registers)) sent
+    (is_previous previous (sequence_of registers) ≡ false) × NeverRepeat (Some (sequence_of registers)) sent
 
 -- at version 2, of every list of up to 64 pairs and all such commands: where the commands succeed the list leaves what they leave but for the previous
 -- number, and answers 1, if there are any; where they fail at a place the list names it; and with numbers that never repeat they fail where it names a place,

@@ -6,12 +6,12 @@ use Rattle.session.specs.declared.Session.{Session}
 use Rattle.session.specs.declared.Window.TheVariants.{Closed, Read, Write}
 use Rattle.session.specs.Machine.{Setup, Machine}
 use Rattle.session.specs.Suspension.{suspended, resumed}
-use Rattle.refusals.specs.declared.Reason.TheVariants.{Accepted}
 use Rattle.registers.specs.Registers.{command_of, number}
 use Rattle.mailbox.specs.Commands.{flushing}
 use Rattle.mailbox.specs.Mediator.{reason_in, mediate, response}
 use Rattle.invariants.specs.Codes.{is_create}
 use Rattle.invariants.specs.Pending.{drops}
+use Rattle.refusals.specs.Refusals.{Accepted}
 
 -- the named blocks: "version 1: flash block a (0-1) and L bytes (2-5); L is rounded up to k blocks", counted from the window's first block; "Version 2: window
 -- block w (0-1) and k blocks (2-3)"

@@ -3,10 +3,10 @@ use Rattle.std.specs.Prelude.{◌≡◌, true, List, ◌++◌, ℕ, length, drop
 use Rattle.units.specs.Units.{to_bytes}
 use Rattle.buffers.specs.Ranges.{range}
 use Rattle.session.specs.Machine.{Setup, Machine}
-use Rattle.refusals.specs.declared.Reason.TheVariants.{Accepted}
 use Rattle.registers.specs.Registers.{command_of}
 use Rattle.mailbox.specs.Mediator.{reason_in, mediate, response}
 use Rattle.invariants.specs.Codes.{is_create}
+use Rattle.refusals.specs.Refusals.{Accepted}
 
 -- "Bytes of window memory that no rule names stay": only a create (4, 6) and ERASE (10) name any, and no refusal does, on any session
 abbrev pub MemoryStays : Type 0

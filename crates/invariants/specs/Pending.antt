@@ -1,16 +1,16 @@
 -- The kept numbers of dirty and erased blocks, and what `pending` tells of them, with the papers' own numbers: document 02, Ticket 2. Proved in
 -- proofs/Pending.antt.
-use Rattle.std.specs.Prelude.{◌≡◌, Bool, true, false, cond, ◌||◌, List, [], ◌∷◌, ◌⊎◌, ℕ, suc, ◌+◌, ◌*◌, eqb, length, replicate}
+use Rattle.std.specs.Prelude.{None, Err, ◌≡◌, Bool, true, false, cond, ◌||◌, List, [], ◌∷◌, ◌⊎◌, ℕ, suc, ◌+◌, ◌*◌, eqb, length, replicate}
 use Rattle.session.specs.declared.Session.{Session}
 use Rattle.session.specs.Machine.{Setup, Machine}
 use Rattle.session.specs.Marks.{counts_of}
 use Rattle.session.specs.Record.{fresh}
 use Rattle.session.specs.Suspension.{resumed_changed}
 use Rattle.soundness.specs.Soundness.{sound_in}
-use Rattle.soundness.specs.declared.pending_work.PendingWork.TheVariants.{Unsound, Marked}
-use Rattle.soundness.specs.Pending.{pending_in}
+use Rattle.soundness.specs.Pending.{marked_work, pending_in}
 use Rattle.flush.specs.Window.{window_actions, advanced}
-use Rattle.refusals.specs.declared.Reason.TheVariants.{Accepted, System, Argument}
+use Rattle.refusals.specs.declared.Reason.TheVariants.{System, Argument}
+use Rattle.refusals.specs.Refusals.{Accepted}
 use Rattle.registers.specs.Registers.{command_of, number}
 use Rattle.marklist.specs.MarkList.{list_code, listed_in}
 use Rattle.mailbox.specs.Commands.{flushing}
@@ -38,7 +38,7 @@ pub record Counted (s : Session) : Type 0 where
 abbrev pub MiscountedRefused : Type 0
 MiscountedRefused =
     (setup : Setup) (registers : List ℕ) (m : Machine) → (Counted m.session → ⊥)
-    → (reason_in setup registers m ≡ System)
+    → (reason_in setup registers m ≡ Err System)
     × ((list : List ℕ) → list_code (listed_in setup list m).answer ≡ 4)
     × ((done : ℕ) → advanced m done ≡ record { code = 4; yes = false; flash = m.flash })
 
@@ -63,7 +63,7 @@ DroppedUnmarked =
     ((setup : Setup) (registers : List ℕ) (m : Machine)
     → (reason_in setup registers m ≡ Accepted → drops (command_of registers) ≡ true
     → (response setup registers m ≡ 3 → is_create (command_of registers) ≡ true) → Unmarked (mediate setup registers m).machine.session)
-    × (reason_in setup registers m ≡ Argument → is_create (command_of registers) ≡ true → Unmarked (mediate setup registers m).machine.session))
+    × (reason_in setup registers m ≡ Err Argument → is_create (command_of registers) ≡ true → Unmarked (mediate setup registers m).machine.session))
     × ((s : Session) → s.suspended ≡ true → Unmarked (resumed_changed s).session)
     × Unmarked fresh
 
@@ -73,8 +73,8 @@ DroppedUnmarked =
 abbrev pub PendingExact : Type 0
 PendingExact =
     (s : Session)
-    → (Counted s → pending_in s ≡ Marked (s.counts.dirty + s.counts.erased) (17 * s.counts.dirty + s.counts.erased))
-    × ((Counted s → ⊥) → pending_in s ≡ Unsound)
+    → (Counted s → pending_in s ≡ marked_work (s.counts.dirty + s.counts.erased) (17 * s.counts.dirty + s.counts.erased))
+    × ((Counted s → ⊥) → pending_in s ≡ None)
 
 -- the number of marks that aren't 0
 abbrev pub marked_blocks : List ℕ → ℕ
@@ -85,11 +85,11 @@ marked_blocks (mark ∷ marks) = cond (eqb mark 0) 0 1 + marked_blocks marks
 abbrev pub PendingTells : Type 0
 PendingTells =
     (setup : Setup) (m : Machine) → sound_in setup m ≡ true
-    → pending_in m.session ≡ Marked (marked_blocks m.session.marks) (length (window_actions m.session))
+    → pending_in m.session ≡ marked_work (marked_blocks m.session.marks) (length (window_actions m.session))
 
 -- what it tells is what the answer to a command carries
 abbrev pub Tells : Setup → List ℕ → Machine → Type 0
-Tells setup registers m = pending_in m.session ≡ Marked (marked_blocks m.session.marks) (mediate setup registers m).actions
+Tells setup registers m = pending_in m.session ≡ marked_work (marked_blocks m.session.marks) (mediate setup registers m).actions
 
 -- to a FLUSH (8) "that adds no mark", among them every one of version 2 and with L = 0 (2-5), and where L names only blocks that are dirty already; to a
 -- CLOSE_WINDOW (5) and a create, which close the window; and to a create that is refused for its argument. Each where it does not answer WRITE_ERROR (3):
@@ -101,4 +101,4 @@ PendingCarried =
     → (reason_in setup registers m ≡ Accepted → command_of registers ≡ 8 → (flushing m.session registers).marks ≡ m.session.marks → Tells setup registers m)
     × (reason_in setup registers m ≡ Accepted → command_of registers ≡ 8 → (m.session.version ≡ 2) ⊎ (number 4 2 registers ≡ 0) → Tells setup registers m)
     × (reason_in setup registers m ≡ Accepted → (is_create (command_of registers) || eqb (command_of registers) 5) ≡ true → Tells setup registers m)
-    × (reason_in setup registers m ≡ Argument → is_create (command_of registers) ≡ true → Tells setup registers m)
+    × (reason_in setup registers m ≡ Err Argument → is_create (command_of registers) ≡ true → Tells setup registers m)

@@ -1,6 +1,6 @@
 -- What a run of any calls keeps: commands with any registers, lists of marks in one call, suspends, resumes of both kinds, steps, host writes, what another
 -- writes in the flash, and what the driver writes in its map of worn blocks. A single call is a run of one. Proved in proofs/Runs.antt.
-use Rattle.std.specs.Prelude.{◌≡◌, true, List, ℕ, ◌+◌, ◌≤◌, length}
+use Rattle.std.specs.Prelude.{Err, ◌≡◌, true, List, ℕ, ◌+◌, ◌≤◌, length}
 use Rattle.std.specs.Int.Bits.{bit_and}
 use Rattle.units.specs.Units.{round_up}
 use Rattle.session.specs.Events.{is_set}
@@ -38,7 +38,7 @@ RunKeeps = (setup : Setup) (calls : List Call) (m : Machine) → sound_in setup 
 abbrev pub RunServed : Type 0
 RunServed =
     (setup : Setup) (calls : List Call) (m : Machine) → sound_in setup m ≡ true
-    → ((registers : List ℕ) → reason_in setup registers (called_all setup calls m) ≡ System → ⊥)
+    → ((registers : List ℕ) → reason_in setup registers (called_all setup calls m) ≡ Err System → ⊥)
     × ((list : List ℕ) → list_code (listed_in setup list (called_all setup calls m)).answer ≡ 4 → ⊥)
     × ((done : ℕ) → (advanced (called_all setup calls m) done).code ≡ 4 → ⊥)
 

@@ -1,16 +1,15 @@
 -- Worn blocks, with the papers' own words and numbers: document 02, Ticket 8. What becomes of the flash, and the number of actions, is said of every command in
 -- Demand2.antt; that a sound session stays sound through a failed flush, in Kept.antt and Runs.antt. Proved in proofs/Worn.antt.
-use Rattle.std.specs.Prelude.{◌≡◌, Bool, true, false, cond, ◌||◌, List, [], ◌∷◌, ◌++◌, ◌⊎◌, ℕ, suc, ◌+◌, ◌*◌, ◌≤◌, ◌<◌, length, get_or, take, drop, replicate}
-use Rattle.std.proofs.Math.Option.{Option, none, some}
+use Rattle.std.specs.Prelude.{Option, None, Some, Err, ◌≡◌, Bool, true, false, cond, ◌||◌, List, [], ◌∷◌, ◌++◌, ◌⊎◌, ℕ, suc, ◌+◌, ◌*◌, ◌≤◌, ◌<◌, length, get_or, take, drop, replicate}
 use Rattle.units.specs.Units.{round_up}
 use Rattle.session.specs.declared.Session.{Session}
-use Rattle.session.specs.declared.Previous.TheVariants.{Number}
 use Rattle.session.specs.Machine.{Setup, Machine, wearing}
 use Rattle.session.specs.Marks.{is_marked, marks_of}
 use Rattle.session.specs.Record.{with_previous, with_marks, drop_window}
 use Rattle.soundness.specs.Soundness.{sound}
 use Rattle.flush.specs.Window.{window_actions, perform_in, advanced}
-use Rattle.refusals.specs.declared.Reason.TheVariants.{Accepted, System, Argument}
+use Rattle.refusals.specs.declared.Reason.TheVariants.{System, Argument}
+use Rattle.refusals.specs.Refusals.{Accepted}
 use Rattle.registers.specs.Registers.{command_of, sequence_of}
 use Rattle.marklist.specs.MarkList.{list_code, listed_in}
 use Rattle.mailbox.specs.Commands.{flushing}
@@ -24,7 +23,7 @@ use Rattle.invariants.specs.Demand2.{at_close, flushed_for, fails_at, reached}
 abbrev pub MapRefused : Type 0
 MapRefused =
     (setup : Setup) (registers : List ℕ) (m : Machine) → (length m.worn ≡ round_up (length m.flash) → ⊥)
-    → (reason_in setup registers m ≡ System)
+    → (reason_in setup registers m ≡ Err System)
     × ((list : List ℕ) → list_code (listed_in setup list m).answer ≡ 4)
     × ((done : ℕ) → advanced m done ≡ record { code = 4; yes = false; flash = m.flash })
 
@@ -42,8 +41,8 @@ kept worn block (mark ∷ marks) = cond (fails_at worn block mark) (mark ∷ mar
 
 -- whether the flush of a command fails, of the session whose marks it carries out, if any
 abbrev pub failing : List ℕ → Option Session → Bool
-failing worn none = false
-failing worn (some s) = meets worn s.first s.marks
+failing worn None = false
+failing worn (Some s) = meets worn s.first s.marks
 
 -- 3 is answered exactly where it does, by every command, at every version, "after the argument check, but in a create before it": `flushed_for` has whose marks a
 -- command carries out, by the check that refuses it. "SUCCESS otherwise": 1 where no check refuses a command and its flush, if any, does not fail
@@ -59,7 +58,7 @@ WriteErrorExactly =
 pub record Leaving (setup : Setup) (registers : List ℕ) (m : Machine) (code : ℕ) (s : Session) : Type 0 where
   pub shown : (mediate setup registers m).registers
       ≡ command_of registers ∷ sequence_of registers ∷ (replicate 11 0 ++ (code ∷ get_or registers 14 0 ∷ m.session.events ∷ []))
-  pub left : (mediate setup registers m).machine.session ≡ with_previous (Number (sequence_of registers)) s
+  pub left : (mediate setup registers m).machine.session ≡ with_previous (Some (sequence_of registers)) s
   pub memory_same : (mediate setup registers m).machine.memory ≡ m.memory
   pub map_same : (mediate setup registers m).machine.worn ≡ m.worn
 
@@ -77,7 +76,7 @@ FailedAsSaid =
 -- flash, and the number of actions, is said in Demand2.antt
 abbrev pub RefusedCreateAsSaid : Type 0
 RefusedCreateAsSaid =
-    (setup : Setup) (registers : List ℕ) (m : Machine) → is_create (command_of registers) ≡ true → reason_in setup registers m ≡ Argument
+    (setup : Setup) (registers : List ℕ) (m : Machine) → is_create (command_of registers) ≡ true → reason_in setup registers m ≡ Err Argument
     → Leaving setup registers m (cond (failing m.worn (at_close m.session)) 3 2) (drop_window m.session)
 
 -- ---- the steps
@@ -109,8 +108,8 @@ AllGood worn = (block : ℕ) → get_or worn block 0 ≡ 0
 
 -- all actions of a session's marks, one after the other
 abbrev pub Folded : Option Session → List ℕ → List ℕ → List ℕ → ℕ → Type 0
-Folded none flash memory after actions = (after ≡ flash) × (actions ≡ 0)
-Folded (some s) flash memory after actions = (after ≡ perform_in s memory (window_actions s) flash) × (actions ≡ length (window_actions s))
+Folded None flash memory after actions = (after ≡ flash) × (actions ≡ 0)
+Folded (Some s) flash memory after actions = (after ≡ perform_in s memory (window_actions s) flash) × (actions ≡ length (window_actions s))
 
 -- no command answers 3, and a flush is the fold of all its actions
 abbrev pub GoodAsBefore : Type 0

@@ -1,10 +1,6 @@
 -- Demand 3, whole: `demand_3`, over the definitions that the contracts cite.
-use mathlib.Core.Path.{◌≡◌, refl, sym, ap, ◌∙◌, subst}
-use mathlib.Core.Bool.{Bool, true, false, cond, ◌&&◌, not}
-use mathlib.Core.List.{List, ◌∷◌}
-use Prim.Native.Nat.{ℕ, ◌+◌, ◌≤◌, min}
-use lib.Dec.{ltb, eqb}
-use lib.ListN.{length, get_or, replicate, length-replicate}
+use Rattle.std.proofs.Common.{◌≡◌, refl, sym, ap, ◌∙◌, subst, Bool, true, false, cond, ◌&&◌, not, List, ◌∷◌, ℕ, ◌+◌, ◌≤◌, min, ltb, eqb, length, get_or, replicate}
+use lib.ListN.{length-replicate}
 use Rattle.units.proofs.Cases.{chosen}
 use Rattle.units.specs.Units.{to_bytes}
 use Rattle.session.specs.declared.Session.{Session}
@@ -14,8 +10,7 @@ use Rattle.session.specs.Marks.{dirty, is_marked}
 use Rattle.session.specs.Events.{control_lost, clear_bits}
 use Rattle.session.specs.Record.{fresh, with_version, with_access}
 use Rattle.soundness.specs.Soundness.{sound, sound_at}
-use Rattle.session.specs.declared.suspension.Suspension.{Suspension}
-use Rattle.session.specs.Suspension.{resumed}
+use Rattle.session.specs.Suspension.{Suspension, resumed}
 use Rattle.soundness.proofs.Access.{resumed_sound}
 use Rattle.soundness.proofs.Facts.{part_within, measured}
 use Rattle.flush.specs.Actions.{flush_actions}

@@ -1,14 +1,5 @@
 -- The first list: whatever it is, the first j actions stand and the others do not.
-use mathlib.Core.Path.{◌≡◌, refl, sym, ap, subst, ◌∙◌}
-use mathlib.Core.Bool.{Bool, true, false, cond, not, ◌&&◌}
-use mathlib.Core.List.{List, [], ◌∷◌, ◌++◌, append-nil}
-use mathlib.Core.Logic.{◌⊎◌, inl, inr, ⊎_elim}
-use Prim.Native.Nat.{ℕ, zero, suc, ◌+◌, ◌-◌, ◌/◌, ◌≤◌, ◌<◌}
-use native.Mathlib.Omega.{arith}
-use lib.Dec.{ltb}
-use lib.ListN.{length, get_or, take, drop, replicate, drop_of_length-le}
-use lib.Seq.{take-add, take_all, take-take}
-use borrow.Author.Tests.{le-leb, lt-ltb, ltb-true, ltb-false}
+use Rattle.std.proofs.Common.{◌≡◌, refl, sym, ap, subst, ◌∙◌, Bool, true, false, cond, not, ◌&&◌, List, [], ◌∷◌, ◌++◌, append-nil, ◌⊎◌, inl, inr, ⊎_elim, ℕ, zero, suc, ◌+◌, ◌-◌, ◌/◌, ◌≤◌, ◌<◌, arith, ltb, length, get_or, take, drop, replicate, drop_of_length-le, take-add, take_all, take-take, le-leb, lt-ltb, ltb-true, ltb-false}
 use Rattle.units.proofs.Cases.{decided, below_or}
 use Rattle.units.specs.Units.{to_bytes}
 use Rattle.session.specs.declared.Session.{Session}
@@ -19,8 +10,7 @@ use Rattle.session.specs.Marks.{is_marked}
 use Rattle.session.specs.Events.{control_lost, set_bits, clear_bits}
 use Rattle.session.specs.Record.{with_access}
 use Rattle.soundness.specs.Soundness.{marks_sound, markable, sound}
-use Rattle.session.specs.declared.suspension.Suspension.{Suspension}
-use Rattle.session.specs.Suspension.{answer as saying, suspended, resumed}
+use Rattle.session.specs.Suspension.{Suspension, answer as saying, suspended, resumed}
 use Rattle.session.proofs.Answers.{either_way}
 use Rattle.soundness.proofs.Access.{suspended_sound, resumed_sound}
 use Rattle.soundness.proofs.Facts.{sizes, fitting, part_within}

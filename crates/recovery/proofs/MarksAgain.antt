@@ -1,15 +1,6 @@
 -- Laws of marks that are given again one by one, to a session that begins with none.
-use mathlib.Core.Path.{◌≡◌, refl, sym, ap, ◌∙◌}
-use mathlib.Core.Bool.{true}
-use mathlib.Core.List.{List, [], ◌∷◌, ◌++◌}
-use Prim.Native.Nat.{ℕ, zero, suc, ◌≤◌, ◌<◌}
-use native.Mathlib.Nat.{not-suc-le-zero, le_of_suc-le-suc}
-use native.Mathlib.Numerals.{add-one}
-use native.Mathlib.Omega.{arith}
-use lib.Dec.{leb}
-use lib.ListN.{length, get_or, take, drop, replicate, length-append}
-use lib.Seq.{take-suc, append_snoc, set_split, set_at, length-take-le}
-use borrow.Author.Tests.{leb-true}
+use Rattle.std.proofs.Common.{◌≡◌, refl, sym, ap, ◌∙◌, true, List, [], ◌∷◌, ◌++◌, ℕ, zero, suc, ◌≤◌, ◌<◌, not-suc-le-zero, le_of_suc-le-suc, add-one, arith, leb, length, get_or, take, drop, replicate, length-append, take-suc, length-take-le, leb-true}
+use lib.Seq.{append_snoc, set_split, set_at}
 use Rattle.units.proofs.Cases.{both}
 use Rattle.buffers.specs.Ranges.{replace}
 use Rattle.soundness.specs.Soundness.{marks_sound}

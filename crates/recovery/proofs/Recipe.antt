@@ -1,14 +1,6 @@
 -- The recovery of specs/Recipe.antt is a second run, whatever the session and the cut: `recovers`.
-use mathlib.Core.Path.{◌≡◌, refl, sym, ap, ◌∙◌, subst}
-use mathlib.Core.Bool.{true}
-use mathlib.Core.List.{List, [], ◌∷◌, ◌++◌, append-nil}
-use mathlib.Core.Logic.{inl, inr, ⊎_elim}
-use Prim.Native.Nat.{ℕ, suc, ◌+◌, ◌-◌, ◌/◌, ◌≤◌, ◌<◌}
-use native.Mathlib.Omega.{arith}
-use lib.Dec.{leb, eqb}
-use lib.ListN.{length, get_or, take, drop, replicate}
-use lib.Seq.{drop-cons, take_all}
-use borrow.Author.Tests.{leb-true, eqb-true, eqb-false}
+use Rattle.std.proofs.Common.{◌≡◌, refl, sym, ap, ◌∙◌, subst, true, List, [], ◌∷◌, ◌++◌, append-nil, inl, inr, ⊎_elim, ℕ, suc, ◌+◌, ◌-◌, ◌/◌, ◌≤◌, ◌<◌, arith, leb, eqb, length, get_or, take, drop, replicate, drop-cons, take_all, leb-true, eqb-true, Some}
+use borrow.Author.Tests.{eqb-false}
 use Rattle.units.specs.Units.{block_bytes, to_bytes, round_up}
 use Rattle.units.proofs.Cases.{both, chosen, below_or}
 use Rattle.buffers.specs.Ranges.{replace}
@@ -16,7 +8,6 @@ use Rattle.buffers.proofs.Replace.{range_length, range_at, replace_before, repla
 use Rattle.chip.specs.Actions.{erased}
 use Rattle.chip.proofs.Laws.{erased_outside}
 use Rattle.session.specs.declared.Session.{Session}
-use Rattle.session.specs.declared.Previous.TheVariants.{Number}
 use Rattle.session.specs.declared.Window.{Window}
 use Rattle.session.specs.declared.Window.TheVariants.{Write}
 use Rattle.session.specs.Machine.{Setup, Machine, lent}
@@ -85,7 +76,7 @@ module _ (setup : Setup) (s : Session) (flash worn memory : List ℕ) (sounds : 
     opened : Open s.first s.size (length memory) flash worn m
     sound_so_far : sound_in setup m ≡ true
     number : ℕ
-    previous : m.session.previous ≡ Number number
+    previous : m.session.previous ≡ Some number
     earlier : number < 2 + b
     marks : m.session.marks ≡ take b s.marks ++ replicate k 0
     held : Held b m.memory
@@ -165,7 +156,7 @@ module _ (setup : Setup) (s : Session) (flash worn memory : List ℕ) (sounds : 
           opened = o;
           sound_so_far = sounds;
           number = 2 + b;
-          previous = ap (λ (x : Machine). x.session.previous) left ∙ ap Number q;
+          previous = ap (λ (x : Machine). x.session.previous) left ∙ ap Some q;
           earlier = omega arith;
           marks =
               ap (λ (x : Machine). x.session.marks) left ∙ ap (replace b (mark ∷ [])) r.marks ∙ mark_more s.marks b k there mark e;

@@ -1,12 +1,5 @@
 -- The second run: what each of its calls leaves.
-use mathlib.Core.Path.{◌≡◌, refl, sym, ap, ◌∙◌, subst}
-use mathlib.Core.Bool.{Bool, true, false, cond, true≢false}
-use mathlib.Core.List.{List, [], ◌∷◌}
-use mathlib.Core.Logic.{◌⊎◌, ⊎_elim}
-use Prim.Native.Nat.{ℕ, ◌≤◌, min}
-use native.Mathlib.Omega.{arith}
-use lib.ListN.{length, get_or}
-use borrow.Author.Tests.{leb-true}
+use Rattle.std.proofs.Common.{◌≡◌, refl, sym, ap, ◌∙◌, subst, Bool, true, false, cond, true≢false, List, [], ◌∷◌, ◌⊎◌, ⊎_elim, ℕ, ◌≤◌, min, length, get_or, leb-true, Err}
 use Rattle.units.specs.Units.{to_bytes, round_up}
 use Rattle.units.proofs.Cases.{decided, both}
 use Rattle.chip.specs.Actions.{erased}
@@ -23,10 +16,9 @@ use Rattle.flush.specs.Worn.{until_failure, some_fail}
 use Rattle.flush.specs.Window.{window_actions, perform_in, window_worn, flush_whole}
 use Rattle.flush.proofs.Failing.{until_all, some_none}
 use Rattle.flush.proofs.Whole.{in_none}
-use Rattle.refusals.specs.declared.Reason.{Reason}
-use Rattle.refusals.specs.declared.Reason.TheVariants.{Accepted, System, Repeated, Unknown, Suspended, Windowless, Argument}
+use Rattle.refusals.specs.declared.Reason.TheVariants.{System, Repeated, Unknown, Suspended, Windowless, Argument}
 use Rattle.registers.specs.Registers.{command_of, argument, number}
-use Rattle.refusals.specs.Refusals.{blocks_named, flush_marks, code_for}
+use Rattle.refusals.specs.Refusals.{Checked, Accepted, blocks_named, flush_marks, code_for}
 use Rattle.marklist.specs.MarkList.{pairs_of, mark_pairs, after_list}
 use Rattle.marklist.proofs.Taken.{list_left}
 use Rattle.mailbox.specs.Commands.{Outcome, numbered, numbered_in, marked, size_for, hint, opened, created, flushing, flushed_all}
@@ -121,7 +113,7 @@ module _ (setup : Setup) (registers flash worn memory : List ℕ) (ok : response
   pub info_sound : sound_in setup (begun flash worn memory) ≡ true
   info_sound =
       sounds_unless setup registers (begun flash worn memory)
-      (λ q. let z : ◌≡◌ {A = ℕ} 0 1 = cc (sym (accepted setup fresh registers flash worn memory ok) ∙ q) in omega arith)
+      (λ q. cc (sym (accepted setup fresh registers flash worn memory ok) ∙ q))
 
   pub info_leaves : command_of registers ≡ get_info.code
       → sent setup registers (begun flash worn memory)
@@ -183,7 +175,7 @@ module _ (setup : Setup) (first size long : ℕ) (flash worn : List ℕ) (room :
       }
 
   module _ (m : Machine) (o : Open first size long flash worn m) (registers : List ℕ) (k : ℕ) (is : command_of registers ≡ k) (w : (k ≡ mark_dirty.code) ⊎ (k ≡ erase.code)) where
-    abbrev left : Reason → Machine
+    abbrev left : Checked → Machine
     left r = (answer_to r (command_in registers) setup registers m).machine
 
     refused_same : Open first size long flash worn (numbered_in registers m)
@@ -213,7 +205,7 @@ module _ (setup : Setup) (first size long : ℕ) (flash worn : List ℕ) (room :
         (marked_same erased_mark (erased (to_bytes (blocks_named m.session registers).start) (to_bytes (blocks_named m.session registers).count) m.memory) (erased_long (is ∙ e) a)))
         w
 
-    broken_open : Open first size long flash worn (left Argument)
+    broken_open : Open first size long flash worn (left (Err Argument))
     unfolding answer_to command_at
     broken_open =
         ⊎_elim
@@ -222,20 +214,20 @@ module _ (setup : Setup) (first size long : ℕ) (flash worn : List ℕ) (room :
         w
       where
         broken_at : (n : ℕ) → command_of registers ≡ n
-            → Open first size long flash worn ((command_at n).when_broken (code_for m.session.version Argument) registers (numbered_in registers m)).machine
-            → Open first size long flash worn ((command_at (command_of registers)).when_broken (code_for m.session.version Argument) registers (numbered_in registers m)).machine
+            → Open first size long flash worn ((command_at n).when_broken (code_for m.session.version (Err Argument)) registers (numbered_in registers m)).machine
+            → Open first size long flash worn ((command_at (command_of registers)).when_broken (code_for m.session.version (Err Argument)) registers (numbered_in registers m)).machine
         broken_at n e o =
-            subst (λ (q : ℕ). Open first size long flash worn ((command_at q).when_broken (code_for m.session.version Argument) registers (numbered_in registers m)).machine) (sym e) o
+            subst (λ (q : ℕ). Open first size long flash worn ((command_at q).when_broken (code_for m.session.version (Err Argument)) registers (numbered_in registers m)).machine) (sym e) o
 
-    answered_open : (r : Reason) → reason_in setup registers m ≡ r → Open first size long flash worn (left r)
+    answered_open : (r : Checked) → reason_in setup registers m ≡ r → Open first size long flash worn (left r)
     unfolding answer_to
     answered_open Accepted e = accepted_open e
-    answered_open System e = o
-    answered_open Repeated e = refused_same
-    answered_open Unknown e = refused_same
-    answered_open Suspended e = refused_same
-    answered_open Windowless e = refused_same
-    answered_open Argument e = broken_open
+    answered_open (Err System) e = o
+    answered_open (Err Repeated) e = refused_same
+    answered_open (Err Unknown) e = refused_same
+    answered_open (Err Suspended) e = refused_same
+    answered_open (Err Windowless) e = refused_same
+    answered_open (Err Argument) e = broken_open
 
     sent_open : Open first size long flash worn (sent setup registers m)
     sent_open =

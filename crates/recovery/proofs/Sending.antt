@@ -1,28 +1,20 @@
 -- Commands of version 2 that are accepted: what each needs of the machine that it is sent to, and the machine that it leaves. Of the recipe's
 -- proof this file alone opens the mediator and the table of refusals.
-use mathlib.Core.Path.{◌≡◌, refl, sym, ap, subst, ◌∙◌}
-use mathlib.Core.Bool.{Bool, true, false, cond, not, ◌&&◌, and-false, true≢false}
-use mathlib.Core.List.{List, [], ◌∷◌}
-use Prim.Native.Nat.{ℕ, ◌+◌, ◌*◌, ◌/◌, ◌%◌, ◌≤◌, ◌<◌}
-use native.Mathlib.Omega.{arith}
-use lib.Dec.{ltb, eqb}
-use lib.ListN.{length, get_or, replicate}
-use borrow.Author.Tests.{le-leb, lt-leb, ne_eqb}
+use Rattle.std.proofs.Common.{◌≡◌, refl, sym, ap, subst, ◌∙◌, Bool, true, false, cond, not, ◌&&◌, true≢false, List, [], ◌∷◌, ℕ, ◌+◌, ◌*◌, ◌/◌, ◌%◌, ◌≤◌, ◌<◌, arith, ltb, eqb, length, get_or, replicate, le-leb, ne_eqb, Option, Some}
+use mathlib.Core.Bool.{and-false}
+use borrow.Author.Tests.{lt-leb}
 use Rattle.units.specs.Units.{block_bytes, to_bytes, round_up}
 use Rattle.buffers.specs.Ranges.{replace}
 use Rattle.chip.specs.Actions.{erased}
-use Rattle.session.specs.declared.Previous.{Previous}
-use Rattle.session.specs.declared.Previous.TheVariants.{Number}
 use Rattle.session.specs.declared.Window.TheVariants.{Write}
 use Rattle.session.specs.declared.Session.{Session}
 use Rattle.session.specs.Machine.{Setup, Machine, lent, holding}
 use Rattle.session.specs.Record.{clean, fresh, with_marks, with_window}
 use Rattle.soundness.specs.Soundness.{sound_at, sound_in}
 use Rattle.session.specs.Marks.{dirty, erased_mark}
-use Rattle.refusals.specs.declared.BlockRange.{BlockRange}
 use Rattle.registers.specs.Registers.{command_of, sequence_of, number}
 use Rattle.refusals.specs.declared.Needs.TheVariants.{Nothing}
-use Rattle.refusals.specs.Refusals.{blocks_named, is_previous, is_write, needs_number, needs_access, needs_window}
+use Rattle.refusals.specs.Refusals.{NamedBlocks, blocks_named, is_previous, is_write, needs_number, needs_access, needs_window}
 use Rattle.refusals.proofs.Accepting.{accepts}
 use Rattle.mailbox.specs.Commands.{Outcome, numbered, numbered_in, marked, size_for, hint, opened, created, flushing, flushed_all}
 use Rattle.mailbox.specs.Table as table
@@ -57,7 +49,7 @@ pub record Serving (setup : Setup) (last : ℕ) (m : Machine) : Type 0 where
   pub sounds : sound_at setup (length m.flash) (length m.worn) (length m.memory) m.session ≡ true
   pub agreed : m.session.version ≡ 2
   pub awake : m.session.suspended ≡ false
-  pub previous : m.session.previous ≡ Number last
+  pub previous : m.session.previous ≡ Some last
 
 -- what a command leaves that marks: other marks and perhaps other window memory
 abbrev pub marked_as : Machine → List ℕ → List ℕ → List ℕ → Machine
@@ -76,7 +68,7 @@ module _ (setup : Setup) (last : ℕ) (m : Machine) (s : Serving setup last m) (
       (record {
         sounds = s.sounds;
         fresh =
-            ap (λ (p : Previous). needs_number (command_at code).needs && is_previous p (sequence_of registers)) s.previous
+            ap (λ (p : Option ℕ). needs_number (command_at code).needs && is_previous p (sequence_of registers)) s.previous
             ∙ ap (λ (t : Bool). needs_number (command_at code).needs && t) (ne_eqb (sequence_of registers) last (omega arith))
             ∙ and-false (needs_number (command_at code).needs);
         knows = ap (command_at code).known s.agreed ∙ k;
@@ -114,20 +106,20 @@ module _ (setup : Setup) (last : ℕ) (m : Machine) (s : Serving setup last m) (
     named = rw (s.agreed, first, second, le-leb (b + 1) m.session.size (omega arith))
 
     inside : not (blocks_named m.session registers).inside ≡ false
-    inside = ap (λ (r : BlockRange). not r.inside) named
+    inside = ap (λ (r : NamedBlocks). not r.inside) named
 
     pub dirty_sent : command_of registers ≡ (table.mark_dirty).code → sent setup registers m ≡ marked_as m registers (replace b (dirty ∷ []) m.session.marks) m.memory
     unfolding command_at
     dirty_sent c =
         ap (λ (o : Outcome). o.machine) (taken (table.mark_dirty).code c refl (rw w) inside)
-        ∙ ap (λ (r : BlockRange). marked_as m registers (replace r.start (replicate r.count dirty) m.session.marks) m.memory) named
+        ∙ ap (λ (r : NamedBlocks). marked_as m registers (replace r.start (replicate r.count dirty) m.session.marks) m.memory) named
 
     pub erase_sent : command_of registers ≡ (table.erase).code
         → sent setup registers m ≡ marked_as m registers (replace b (erased_mark ∷ []) m.session.marks) (erased (to_bytes b) block_bytes m.memory)
     unfolding command_at
     erase_sent c =
         ap (λ (o : Outcome). o.machine) (taken (table.erase).code c refl (rw w) inside)
-        ∙ ap (λ (r : BlockRange). marked_as m registers (replace r.start (replicate r.count erased_mark) m.session.marks) (erased (to_bytes r.start) (to_bytes r.count) m.memory)) named
+        ∙ ap (λ (r : NamedBlocks). marked_as m registers (replace r.start (replicate r.count erased_mark) m.session.marks) (erased (to_bytes r.start) (to_bytes r.count) m.memory)) named
 
   -- ---- FLUSH where no block that it flushes is worn
   pub flush_taken : command_of registers ≡ (table.flush).code → m.session.window ≡ Write → MeetsNone m.worn m.session → response setup registers m ≡ 1

@@ -1,21 +1,14 @@
 -- What a message gets is what the ticket says: the claim stands in specs/Answered.antt.
-use mathlib.Core.Path.{◌≡◌, refl, sym, ap, subst, ◌∙◌}
-use mathlib.Core.Bool.{Bool, true, false, not, ◌&&◌, and-false}
-use mathlib.Core.List.{List, [], ◌∷◌, ◌++◌}
-use mathlib.Core.Logic.{⊎_elim}
-use mathlib.Core.Option.{Option}
-use Prim.Native.Nat.{ℕ, zero, suc, ◌+◌, ◌-◌, ◌/◌, ◌≤◌, ◌<◌}
-use native.Mathlib.Omega.{arith}
-use lib.Dec.{eqb, leb}
-use lib.ListN.{length, get_or, drop, length-drop}
-use borrow.Author.Tests.{lt-ltb, le-ltb, eq-eqb, ne_eqb, eqb-true, le-leb, lt-leb}
+use Rattle.std.proofs.Common.{◌≡◌, refl, sym, ap, subst, ◌∙◌, Bool, true, false, not, ◌&&◌, List, [], ◌∷◌, ◌++◌, ⊎_elim, ℕ, zero, suc, ◌+◌, ◌-◌, ◌/◌, ◌≤◌, ◌<◌, arith, eqb, leb, length, get_or, drop, length-drop, lt-ltb, le-ltb, eq-eqb, ne_eqb, eqb-true, le-leb, Option, Err}
+use mathlib.Core.Bool.{and-false}
+use borrow.Author.Tests.{lt-leb}
 use Rattle.units.proofs.Cases.{below_or, chosen, both}
 use Rattle.session.specs.Machine.{Setup, Machine}
 use Rattle.registers.specs.Registers.{command_of, sequence_of}
 use Rattle.registers.proofs.Fields.{elements, elements_of}
 use Rattle.messages.specs.declared.Pair.{Pair}
-use Rattle.messages.specs.declared.Taken.TheVariants.{Short, Foreign, Malformed, Command}
-use Rattle.messages.specs.Messages.{is_own, wrong_length, taken_as, registers_of, headed, status_of, completion_of, values_of, response_of}
+use Rattle.messages.specs.declared.Refusal.TheVariants.{Short, Foreign, Malformed}
+use Rattle.messages.specs.Messages.{Command, is_own, wrong_length, taken_as, registers_of, headed, status_of, completion_of, values_of, response_of}
 use Rattle.messages.specs.Parameters.{Row, table, row_of, is_row}
 use Rattle.messages.proofs.Rows.{◌&◌, each_row, unpacked_as}
 use Rattle.mailbox.specs.Commands.{Outcome}
@@ -135,20 +128,20 @@ module _ (pair : Pair) (version : ℕ) (message : List ℕ) where
           absurd (other (eqb-true (get_or message 0 0 / 4) pair.netfn h.0, eqb-true (get_or message 1 0) pair.command h.1))
       by false e = refl
 
-  short : length message < 2 → Short ≡ taken_as pair version message
+  short : length message < 2 → Err Short ≡ taken_as pair version message
   unfolding taken_as
   short h = rw (lt-ltb (length message) 2 h)
 
-  foreign : 2 ≤ length message → (Own pair message → ⊥) → Foreign ≡ taken_as pair version message
+  foreign : 2 ≤ length message → (Own pair message → ⊥) → Err Foreign ≡ taken_as pair version message
   unfolding taken_as
   foreign h other = rw (le-ltb (length message) 2 h, not_own other)
 
-  under_four : 2 ≤ length message → Own pair message → length message < 4 → Malformed ≡ taken_as pair version message
+  under_four : 2 ≤ length message → Own pair message → length message < 4 → Err Malformed ≡ taken_as pair version message
   unfolding taken_as
   under_four h o few = rw (le-ltb (length message) 2 h, own o, lt-ltb (length message) 4 few)
 
   wrong : 4 ≤ length message → Own pair message → wrong_length (row_of (get_or message 2 0) version) (length message - 4) ≡ true
-      → Malformed ≡ taken_as pair version message
+      → Err Malformed ≡ taken_as pair version message
   unfolding taken_as
   wrong h o w = rw (le-ltb (length message) 2 (omega arith), own o, le-ltb (length message) 4 h, w)
 
@@ -224,12 +217,12 @@ pub answered_as_said : AnsweredAsSaid
 answered_as_said setup pair message m =
     let version = m.session.version in
     let code = get_or message 2 0 in (
-      (λ h. sym (served_as_lem setup pair message m Short (short pair version message (omega arith)))),
-      (λ h other. refused_as 0xc1 message m _ (served_as_lem setup pair message m Foreign (foreign pair version message (omega arith) other))),
-      (λ h o few. refused_as 0xc7 message m _ (served_as_lem setup pair message m Malformed (under_four pair version message (omega arith) o (omega arith)))),
+      (λ h. sym (served_as_lem setup pair message m (Err Short) (short pair version message (omega arith)))),
+      (λ h other. refused_as 0xc1 message m _ (served_as_lem setup pair message m (Err Foreign) (foreign pair version message (omega arith) other))),
+      (λ h o few. refused_as 0xc7 message m _ (served_as_lem setup pair message m (Err Malformed) (under_four pair version message (omega arith) o (omega arith)))),
       (λ h o known other.
           let w = is_wrong (length message - 4) code version known (λ e. other (omega arith)) in
-          refused_as 0xc7 message m _ (served_as_lem setup pair message m Malformed (wrong pair version message (omega arith) o w))),
+          refused_as 0xc7 message m _ (served_as_lem setup pair message m (Err Malformed) (wrong pair version message (omega arith) o w))),
       (λ h o long.
           let w = is_right (length message - 4) code version (λ known. let e = long known in omega arith) in
           mediated_as setup message m _ _ (registers_as version message w)

@@ -1,10 +1,5 @@
 -- Demand 3 with commands by message: a second run with messages is one of mailbox commands. The claim stands in specs/Demand.antt.
-use mathlib.Core.Path.{◌≡◌, refl, sym, ap, subst, ◌∙◌}
-use mathlib.Core.Bool.{true, false}
-use mathlib.Core.List.{List, [], ◌∷◌}
-use mathlib.Core.Logic.{◌⊎◌}
-use Prim.Native.Nat.{ℕ, ◌≤◌}
-use lib.ListN.{length, get_or}
+use Rattle.std.proofs.Common.{◌≡◌, refl, sym, ap, subst, ◌∙◌, true, false, List, [], ◌∷◌, ◌⊎◌, ℕ, ◌≤◌, length, get_or, Err}
 use Rattle.units.specs.Units.{block_holding}
 use Rattle.session.specs.declared.Session.{Session}
 use Rattle.session.specs.Events.{control_lost, clear_bits}
@@ -14,9 +9,8 @@ use Rattle.session.specs.Record.{with_access}
 use Rattle.session.specs.Suspension.{resumed}
 use Rattle.session.proofs.Answers.{either_way}
 use Rattle.registers.specs.Registers.{command_of}
-use Rattle.messages.specs.declared.Taken.{Taken}
-use Rattle.messages.specs.declared.Taken.TheVariants.{Short, Foreign, Malformed, Command}
-use Rattle.messages.specs.Messages.{hiomap_command_of, taken_as}
+use Rattle.messages.specs.declared.Refusal.TheVariants.{Short, Foreign, Malformed}
+use Rattle.messages.specs.Messages.{Taken, Command, hiomap_command_of, taken_as}
 use Rattle.mailbox.specs.Table.{mark_dirty, erase}
 use Rattle.mailbox.specs.Mediator.{response}
 use Rattle.mailbox.specs.Runs.{Call, called_all}
@@ -78,9 +72,9 @@ adds_as (by_flush request) s n = n
 -- a message that is refused is no call, another the command that it has
 sent_allowed : (size : ℕ) (t : Taken) (version : ℕ) (bytes : List ℕ)
     → (hiomap_command_of bytes ≡ mark_dirty.code) ⊎ (hiomap_command_of bytes ≡ erase.code) → AllAllowed size (sent_for t version bytes)
-sent_allowed size Short version bytes p = tt
-sent_allowed size Foreign version bytes p = tt
-sent_allowed size Malformed version bytes p = tt
+sent_allowed size (Err Short) version bytes p = tt
+sent_allowed size (Err Foreign) version bytes p = tt
+sent_allowed size (Err Malformed) version bytes p = tt
 sent_allowed size Command version bytes p = (p, tt)
 
 input_allowed : (size : ℕ) (input : Input) (m : Machine) → Marks size input → AllAllowed size (calls_for input m)

@@ -1,5 +1,5 @@
 -- The worked examples hold, by computation.
-use mathlib.Core.Path.{refl}
+use Rattle.std.proofs.Common.{refl}
 use Rattle.chip.specs.Actions.{erased, programmed}
 use Rattle.soundness.specs.Soundness.{size_sound, sizes_sound, session_sound, sound, sound_at}
 use Rattle.flush.specs.Actions.{block_actions, actions_from, flush_actions, perform, perform_all}

@@ -1,13 +1,5 @@
 -- A message through the KCS port: the claims stand in specs/Kcs.antt.
-use mathlib.Core.Path.{◌≡◌, refl, ap, subst, ◌∙◌}
-use mathlib.Core.Bool.{true}
-use mathlib.Core.List.{List, [], ◌∷◌, ◌++◌}
-use mathlib.Core.Option.{Option}
-use Prim.Native.Nat.{ℕ, ◌≤◌}
-use native.Mathlib.Omega.{arith}
-use lib.Dec.{eqb, leb}
-use lib.ListN.{length}
-use borrow.Author.Tests.{leb-true, ltb-true}
+use Rattle.std.proofs.Common.{◌≡◌, refl, ap, subst, ◌∙◌, true, List, [], ◌∷◌, ◌++◌, ℕ, ◌≤◌, arith, eqb, leb, length, leb-true, ltb-true, Option}
 use Rattle.units.proofs.Cases.{chosen}
 use Rattle.session.specs.Machine.{Setup, Machine}
 use Rattle.registers.specs.Registers.{command_of, sequence_of}
@@ -16,8 +8,7 @@ use Rattle.kcshost.specs.Host.{begin, read_transfer}
 use Rattle.kcshost.proofs.Reading.{published_exchange}
 use Rattle.kcshost.proofs.Waiting.{read_goes_on}
 use Rattle.messages.specs.declared.Pair.{Pair}
-use Rattle.messages.specs.declared.Taken.{Taken}
-use Rattle.messages.specs.Messages.{headed, completion_of, values_of, status_of, taken_as, registers_of, response_of}
+use Rattle.messages.specs.Messages.{Taken, headed, completion_of, values_of, status_of, taken_as, registers_of, response_of}
 use Rattle.messages.specs.Parameters.{Row, table, row_of}
 use Rattle.messages.proofs.Passing.{each_taken}
 use Rattle.messages.proofs.Rows.{◌&◌, each_row}

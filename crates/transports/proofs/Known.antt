@@ -1,11 +1,7 @@
 -- The table of parameters has what the papers say of all commands: the claims stand in specs/Known.antt.
-use mathlib.Core.Path.{◌≡◌, refl, sym}
-use mathlib.Core.Bool.{true, false, ◌&&◌, and-false}
-use mathlib.Core.Option.{Option}
-use Prim.Native.Nat.{ℕ, zero, suc, ◌≤◌}
-use native.Mathlib.Omega.{arith}
-use lib.Dec.{eqb, leb}
-use borrow.Author.Tests.{ne_eqb, leb-true, lt-leb}
+use Rattle.std.proofs.Common.{◌≡◌, refl, sym, true, false, ◌&&◌, ℕ, zero, suc, ◌≤◌, arith, eqb, leb, ne_eqb, leb-true, Option}
+use mathlib.Core.Bool.{and-false}
+use borrow.Author.Tests.{lt-leb}
 use Rattle.messages.specs.Parameters.{Row, table, row_of, is_known}
 use Rattle.messages.proofs.Rows.{◌&◌, each_row}
 use Rattle.invariants.specs.Codes.{knows}

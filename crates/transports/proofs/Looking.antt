@@ -1,12 +1,6 @@
 -- The mediator looks at the command, its number and its own parameters alone: what it leaves has nothing of the other arguments and of registers 13 to 15,
 -- but for register 14, which it hands back.
-use mathlib.Core.Path.{◌≡◌, refl, sym, ap, ◌∙◌}
-use mathlib.Core.Bool.{Bool, true, false, cond}
-use mathlib.Core.List.{List, [], ◌∷◌, ◌++◌}
-use Rattle.std.specs.Prelude.{Option, None, Some}
-use Prim.Native.Nat.{ℕ, min}
-use lib.Dec.{ltb}
-use lib.ListN.{length, get_or, replicate}
+use Rattle.std.proofs.Common.{◌≡◌, refl, sym, ap, ◌∙◌, Bool, true, false, cond, List, [], ◌∷◌, ◌++◌, Err, Option, None, Some, ℕ, min, ltb, length, get_or, replicate}
 use Rattle.units.specs.Units.{block_bytes, to_bytes, round_up}
 use Rattle.buffers.specs.Ranges.{range, replace}
 use Rattle.session.specs.declared.Window.{Window}
@@ -18,9 +12,8 @@ use Rattle.soundness.specs.Soundness.{sound_in}
 use Rattle.registers.specs.Registers.{argument, number, bytes_of}
 use Rattle.registers.proofs.Fields.{elements}
 use Rattle.flush.specs.Window.{flush_whole}
-use Rattle.refusals.specs.declared.Reason.{Reason}
-use Rattle.refusals.specs.declared.Reason.TheVariants.{Accepted, System, Repeated, Unknown, Suspended, Windowless, Argument}
-use Rattle.refusals.specs.Refusals.{reason_for}
+use Rattle.refusals.specs.declared.Reason.TheVariants.{System, Repeated, Unknown, Suspended, Windowless, Argument}
+use Rattle.refusals.specs.Refusals.{Checked, Accepted, reason_for}
 use Rattle.messages.specs.Parameters.{Parameter, y, q, u, Row, row, table, row_of}
 use Rattle.messages.specs.Messages.{arguments_of}
 use Rattle.messages.proofs.Rows.{◌&◌, each_row}
@@ -114,14 +107,14 @@ module _ (setup : Setup) (command sequence : ℕ) (xs ys : List ℕ) where
       by (reason_of c sound one m)
       ∙ ap (λ (b : Bool). seen (answer_to (reason_for sound m.session other (c.known m.session.version) c.needs b) c setup other m)) rule
     where
-      by : (r : Reason) → seen (answer_to r c setup one m) ≡ seen (answer_to r c setup other m)
+      by : (r : Checked) → seen (answer_to r c setup one m) ≡ seen (answer_to r c setup other m)
       by Accepted = left
-      by System = refl
-      by Repeated = refl
-      by Unknown = refl
-      by Suspended = refl
-      by Windowless = refl
-      by Argument = broken _
+      by (Err System) = refl
+      by (Err Repeated) = refl
+      by (Err Unknown) = refl
+      by (Err Suspended) = refl
+      by (Err Windowless) = refl
+      by (Err Argument) = broken _
 
 -- ---- the rows
 
@@ -147,7 +140,7 @@ Alike command version o =
 module _ (setup : Setup) (r : List ℕ) (m : Machine) where
   abbrev Unasked : ℕ → Command → Type 0
   Unasked command c =
-      seen (obeyed c (sound_in setup m) setup (filled_with command r) m) ≡ seen (obeyed c (sound_in setup m) setup (through_row none command r) m)
+      seen (obeyed c (sound_in setup m) setup (filled_with command r) m) ≡ seen (obeyed c (sound_in setup m) setup (through_row None command r) m)
 
   unasked_alike : (command : ℕ) → Unasked command (command_at command)
   unasked_alike =
@@ -179,13 +172,13 @@ module _ (setup : Setup) (r : List ℕ) (m : Machine) where
       flushing_in : ℕ → Machine
       flushing_in command = holding (flushing (numbered command).session (command ∷ sequence ∷ xs)) m
 
-none_alike : (command version : ℕ) → Alike command version none
+none_alike : (command version : ℕ) → Alike command version None
 unfolding mediate
 none_alike command version setup r s flash worn memory = unasked_alike setup r (lent (with_version version s) flash worn memory) command
 
 -- ---- registers with the parameters of a row, the other arguments zero
 abbrev asks : List Parameter → Option Row
-asks ps = some (row 0 0 ps [])
+asks ps = Some (row 0 0 ps [])
 
 reset_alike : (version : ℕ) → Alike 1 version (asks [])
 unfolding mediate command_at

@@ -1,13 +1,9 @@
 -- A run with messages is a run of calls: the claims stand in specs/Runs.antt.
-use mathlib.Core.Path.{◌≡◌, refl, sym, ap, subst, ◌∙◌}
-use mathlib.Core.Bool.{true}
-use mathlib.Core.List.{List, [], ◌∷◌}
-use Prim.Native.Nat.{ℕ}
+use Rattle.std.proofs.Common.{◌≡◌, refl, sym, ap, subst, ◌∙◌, true, List, [], ◌∷◌, ℕ, Err}
 use Rattle.session.specs.Machine.{Setup, Machine}
 use Rattle.soundness.specs.Soundness.{sound_in}
-use Rattle.messages.specs.declared.Taken.{Taken}
-use Rattle.messages.specs.declared.Taken.TheVariants.{Short, Foreign, Malformed, Command}
-use Rattle.messages.specs.Messages.{taken_as, registers_of}
+use Rattle.messages.specs.declared.Refusal.TheVariants.{Short, Foreign, Malformed}
+use Rattle.messages.specs.Messages.{Taken, Command, taken_as, registers_of}
 use Rattle.mailbox.specs.Runs.{called_all}
 use Rattle.ipmi.specs.Served.{Served, served_as}
 use Rattle.ipmi.proofs.Serving.{served_as_lem}
@@ -20,9 +16,9 @@ use Rattle.transports.proofs.Statuses.{completed_system}
 -- what a message leaves, by what became of it
 taken_called : (t : Taken) (setup : Setup) (bytes : List ℕ) (m : Machine)
     → (served_as t setup bytes m).machine ≡ called_all setup (sent_for t m.session.version bytes) m
-taken_called Short setup bytes m = refl
-taken_called Foreign setup bytes m = refl
-taken_called Malformed setup bytes m = refl
+taken_called (Err Short) setup bytes m = refl
+taken_called (Err Foreign) setup bytes m = refl
+taken_called (Err Malformed) setup bytes m = refl
 taken_called Command setup bytes m = refl
 
 input_called : (setup : Setup) (input : Input) (m : Machine) → left setup input m ≡ called_all setup (calls_for input m) m

@@ -1,22 +1,13 @@
 -- The same command by mailbox and by message: the claim stands in specs/Same.antt.
-use mathlib.Core.Path.{◌≡◌, refl, sym, ap, subst, ◌∙◌}
-use mathlib.Core.Bool.{true, false, cond}
-use mathlib.Core.List.{List, [], ◌∷◌, ◌++◌}
-use Rattle.std.specs.Prelude.{Option, None, Some}
-use mathlib.Core.Logic.{⊎_elim}
-use Prim.Native.Nat.{ℕ, ◌+◌, ◌<◌}
-use native.Mathlib.Omega.{arith}
-use lib.Dec.{eqb}
-use lib.ListN.{length}
-use borrow.Author.Tests.{eqb-true, eqb-false, eq-eqb, ne_eqb}
+use Rattle.std.proofs.Common.{◌≡◌, refl, sym, ap, subst, ◌∙◌, true, false, cond, List, [], ◌∷◌, ◌++◌, Option, None, Some, ⊎_elim, ℕ, ◌+◌, ◌<◌, arith, eqb, length, eqb-true, eq-eqb, ne_eqb}
+use borrow.Author.Tests.{eqb-false}
 use Rattle.units.proofs.Cases.{decided}
 use Rattle.session.specs.Machine.{Setup, Machine}
 use Rattle.registers.specs.Registers.{command_of, sequence_of}
 use Rattle.registers.proofs.Fields.{elements, elements_of}
-use Rattle.messages.specs.declared.Taken.TheVariants.{Command}
 use Rattle.messages.specs.Parameters.{Parameter, y, q, u, Row, table, row_of, bytes_in}
 use Rattle.messages.specs.Lengths.{told}
-use Rattle.messages.specs.Messages.{registers_of, headed, packed_from, values_of, status_of, completion_of, response_of}
+use Rattle.messages.specs.Messages.{Command, registers_of, headed, packed_from, values_of, status_of, completion_of, response_of}
 use Rattle.messages.proofs.Rows.{◌&◌, each_row, packed_long}
 use Rattle.mailbox.specs.Commands.{Outcome}
 use Rattle.mailbox.specs.Mediator.{mediate}

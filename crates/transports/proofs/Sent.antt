@@ -1,21 +1,13 @@
 -- The message made of a mailbox command is taken, and the mediator leaves of its registers what it leaves of the command's.
-use mathlib.Core.Path.{◌≡◌, refl, sym, subst, ◌∙◌}
-use mathlib.Core.Bool.{Bool, true, false, ◌&&◌, ◌||◌, false≢true}
-use mathlib.Core.List.{List, [], ◌∷◌, ◌++◌}
-use mathlib.Core.Option.{Option}
-use Prim.Native.Nat.{ℕ, suc, ◌+◌, ◌-◌, ◌*◌, ◌/◌, ◌<◌}
-use native.Mathlib.Omega.{arith}
-use lib.Dec.{ltb}
-use lib.ListN.{length}
-use borrow.Author.Tests.{eq-eqb, le-ltb}
+use Rattle.std.proofs.Common.{◌≡◌, refl, sym, subst, ◌∙◌, true, false, List, [], ◌∷◌, ◌++◌, ℕ, suc, ◌+◌, ◌-◌, ◌*◌, ◌/◌, ◌<◌, arith, ltb, length, eq-eqb, le-ltb, Option}
+use Rattle.std.proofs.lemmas.Bool.{and_from, or_from}
+use mathlib.Core.Bool.{false≢true}
 use Rattle.session.specs.Machine.{Setup, Machine}
 use Rattle.registers.specs.Registers.{command_of, sequence_of}
 use Rattle.registers.proofs.Fields.{elements, elements_of}
 use Rattle.messages.specs.declared.Pair.{Pair}
-use Rattle.messages.specs.declared.Taken.{Taken}
-use Rattle.messages.specs.declared.Taken.TheVariants.{Command}
 use Rattle.messages.specs.Parameters.{Row, table, row_of}
-use Rattle.messages.specs.Messages.{is_own, wrong_length, taken_as, arguments_of, registers_of}
+use Rattle.messages.specs.Messages.{Taken, Command, is_own, wrong_length, taken_as, arguments_of, registers_of}
 use Rattle.messages.proofs.Passing.{each_taken}
 use Rattle.messages.proofs.Rows.{◌&◌, each_row}
 use Rattle.mailbox.specs.Mediator.{mediate}
@@ -41,12 +33,9 @@ right_length command version registers l =
 function_of : (netfn lun : ℕ) → lun < 4 → (netfn * 4 + lun) / 4 ≡ netfn
 function_of netfn lun h = omega arith
 
-both_true : {a b : Bool} → a ≡ true → b ≡ true → (a && b) ≡ true
-both_true e f = rw (e, f)
-
 own : (pair : Pair) (lun version : ℕ) (registers : List ℕ) → lun < 4 → is_own pair (message_of pair lun version registers) ≡ true
 own pair lun version registers h =
-    both_true (eq-eqb ((pair.netfn * 4 + lun) / 4) pair.netfn (function_of pair.netfn lun h)) (eq-eqb pair.command pair.command refl)
+    and_from _ _ (eq-eqb ((pair.netfn * 4 + lun) / 4) pair.netfn (function_of pair.netfn lun h)) (eq-eqb pair.command pair.command refl)
 
 -- ---- so it is taken: it has four bytes before its parameters
 behind_four : (n : ℕ)
@@ -54,9 +43,6 @@ behind_four : (n : ℕ)
     × (ltb (suc (suc (suc (suc n)))) 4 ≡ false)
     × (n ≡ suc (suc (suc (suc n))) - 4)
 behind_four n = (le-ltb (suc (suc (suc (suc n)))) 2 (omega arith), le-ltb (suc (suc (suc (suc n)))) 4 (omega arith), omega arith)
-
-neither : {a b : Bool} → a ≡ false → b ≡ false → (a || b) ≡ false
-neither e f = rw (e, f)
 
 pub message_taken : (pair : Pair) (lun version : ℕ) (registers : List ℕ) → lun < 4 → length registers ≡ 16
     → taken_as pair version (message_of pair lun version registers) ≡ Command
@@ -68,7 +54,7 @@ message_taken pair lun version registers h l =
     each_taken (λ (t : Taken). t ≡ Command) pair version message
     (λ e. absurd (false≢true (sym long.0 ∙ e)))
     (λ _ e. absurd (false≢true (sym e ∙ own pair lun version registers h)))
-    (λ _ _ e. absurd (false≢true (sym (neither long.1 right) ∙ e)))
+    (λ _ _ e. absurd (false≢true (sym (or_from _ _ long.1 right) ∙ e)))
     (λ _. refl)
 
 -- ---- what the mediator leaves

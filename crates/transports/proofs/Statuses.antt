@@ -1,12 +1,6 @@
 -- The status of a command is the code of its reason or WRITE_ERROR, and what the completion code of a message tells of it.
-use mathlib.Core.Path.{◌≡◌, refl, sym, ap, subst, ◌∙◌}
-use mathlib.Core.Bool.{Bool, true, false, cond, false≢true}
-use mathlib.Core.List.{List, ◌∷◌, ◌++◌}
-use Prim.Native.Nat.{ℕ, ◌≤◌, min}
-use native.Mathlib.Omega.{arith}
-use lib.Dec.{eqb, ltb, lit≤}
-use lib.ListN.{length, get_or}
-use borrow.Author.Tests.{eqb-true, eq-eqb}
+use Rattle.std.proofs.Common.{◌≡◌, refl, sym, ap, subst, ◌∙◌, Bool, true, false, cond, List, ◌∷◌, ◌++◌, ℕ, ◌≤◌, min, arith, eqb, ltb, lit≤, length, get_or, eqb-true, eq-eqb, Err}
+use mathlib.Core.Bool.{false≢true}
 use Rattle.units.specs.Units.{block_bytes, to_bytes, round_up}
 use Rattle.units.proofs.Cases.{chosen}
 use Rattle.session.specs.declared.Window.{Window}
@@ -14,15 +8,13 @@ use Rattle.session.specs.declared.Window.TheVariants.{Read, Write}
 use Rattle.session.specs.Machine.{Setup, Machine, holding}
 use Rattle.soundness.specs.Soundness.{sound_in}
 use Rattle.flush.specs.Window.{flush_whole}
-use Rattle.refusals.specs.declared.Reason.{Reason}
-use Rattle.refusals.specs.declared.Reason.TheVariants.{Accepted, System, Repeated, Unknown, Suspended, Windowless, Argument}
+use Rattle.refusals.specs.declared.Reason.TheVariants.{System, Repeated, Unknown, Suspended, Windowless, Argument}
 use Rattle.refusals.specs.declared.Needs.TheVariants.{Access}
-use Rattle.refusals.specs.Refusals.{code_for}
+use Rattle.refusals.specs.Refusals.{Checked, Accepted, code_for}
 use Rattle.refusals.proofs.Accepting.{passed}
 use Rattle.registers.specs.Registers.{command_of, sequence_of, argument, number, bytes_of, padded, reply}
-use Rattle.messages.specs.declared.Taken.{Taken}
-use Rattle.messages.specs.declared.Taken.TheVariants.{Short, Foreign, Malformed, Command}
-use Rattle.messages.specs.Messages.{registers_of, headed, status_of, completion_of, values_of, response_of}
+use Rattle.messages.specs.declared.Refusal.TheVariants.{Short, Foreign, Malformed}
+use Rattle.messages.specs.Messages.{Taken, Command, registers_of, headed, status_of, completion_of, values_of, response_of}
 use Rattle.messages.specs.Parameters.{row_of}
 use Rattle.mailbox.specs.Commands.{Outcome, numbered_in, info_arguments, informed, flash_informed, hint, size_for, created, closed, flushing, flushed}
 use Rattle.mailbox.specs.Table as table
@@ -96,27 +88,27 @@ module _ (setup : Setup) (registers : List ℕ) (m : Machine) where
     response_as p =
         subst (λ (o : Outcome). P (status o)) (sym (mediate_as setup registers m (reason_in setup registers m) refl)) (by (reason_in setup registers m) refl p)
       where
-        by : (r : Reason) → reason_in setup registers m ≡ r → P (code_for m.session.version r)
+        by : (r : Checked) → reason_in setup registers m ≡ r → P (code_for m.session.version r)
             → P (status (answer_to r (command_in registers) setup registers m))
         by Accepted a q = served_status q (command_of registers) a
-        by System a q = q
-        by Repeated a q = q
-        by Unknown a q = q
-        by Suspended a q = q
-        by Windowless a q = q
-        by Argument a q = broken_status 2 q (command_of registers)
+        by (Err System) a q = q
+        by (Err Repeated) a q = q
+        by (Err Unknown) a q = q
+        by (Err Suspended) a q = q
+        by (Err Windowless) a q = q
+        by (Err Argument) a q = broken_status 2 q (command_of registers)
 
 -- ---- the codes
 
 -- none is above 8
-code_few : (version : ℕ) (r : Reason) → code_for version r ≤ 8
+code_few : (version : ℕ) (r : Checked) → code_for version r ≤ 8
 code_few version Accepted = lit≤ tt
-code_few version System = lit≤ tt
-code_few version Repeated = chosen (λ (n : ℕ). n ≤ 8) (ltb version 2) 2 8 (λ _. lit≤ tt) (λ _. lit≤ tt)
-code_few version Unknown = lit≤ tt
-code_few version Suspended = chosen (λ (n : ℕ). n ≤ 8) (ltb version 2) 5 6 (λ _. lit≤ tt) (λ _. lit≤ tt)
-code_few version Windowless = chosen (λ (n : ℕ). n ≤ 8) (ltb version 2) 2 7 (λ _. lit≤ tt) (λ _. lit≤ tt)
-code_few version Argument = lit≤ tt
+code_few version (Err System) = lit≤ tt
+code_few version (Err Repeated) = chosen (λ (n : ℕ). n ≤ 8) (ltb version 2) 2 8 (λ _. lit≤ tt) (λ _. lit≤ tt)
+code_few version (Err Unknown) = lit≤ tt
+code_few version (Err Suspended) = chosen (λ (n : ℕ). n ≤ 8) (ltb version 2) 5 6 (λ _. lit≤ tt) (λ _. lit≤ tt)
+code_few version (Err Windowless) = chosen (λ (n : ℕ). n ≤ 8) (ltb version 2) 2 7 (λ _. lit≤ tt) (λ _. lit≤ tt)
+code_few version (Err Argument) = lit≤ tt
 
 pub response_few : (setup : Setup) (registers : List ℕ) (m : Machine) → response setup registers m ≤ 8
 response_few setup registers m =
@@ -132,18 +124,18 @@ not_two e = omega arith
 not_three : ◌≡◌ {A = ℕ} 3 4 → ⊥
 not_three e = omega arith
 
-code_system : (version : ℕ) (r : Reason) → code_for version r ≡ 4 → r ≡ System
+code_system : (version : ℕ) (r : Checked) → code_for version r ≡ 4 → r ≡ Err System
 code_system version Accepted e = absurd (not_one e)
-code_system version System e = refl
-code_system version Repeated e = absurd (chosen (λ (n : ℕ). n ≡ 4 → ⊥) (ltb version 2) 2 8 (λ _ q. omega arith) (λ _ q. omega arith) e)
-code_system version Unknown e = absurd (not_two e)
-code_system version Suspended e = absurd (chosen (λ (n : ℕ). n ≡ 4 → ⊥) (ltb version 2) 5 6 (λ _ q. omega arith) (λ _ q. omega arith) e)
-code_system version Windowless e = absurd (chosen (λ (n : ℕ). n ≡ 4 → ⊥) (ltb version 2) 2 7 (λ _ q. omega arith) (λ _ q. omega arith) e)
-code_system version Argument e = absurd (not_two e)
+code_system version (Err System) e = refl
+code_system version (Err Repeated) e = absurd (chosen (λ (n : ℕ). n ≡ 4 → ⊥) (ltb version 2) 2 8 (λ _ q. omega arith) (λ _ q. omega arith) e)
+code_system version (Err Unknown) e = absurd (not_two e)
+code_system version (Err Suspended) e = absurd (chosen (λ (n : ℕ). n ≡ 4 → ⊥) (ltb version 2) 5 6 (λ _ q. omega arith) (λ _ q. omega arith) e)
+code_system version (Err Windowless) e = absurd (chosen (λ (n : ℕ). n ≡ 4 → ⊥) (ltb version 2) 2 7 (λ _ q. omega arith) (λ _ q. omega arith) e)
+code_system version (Err Argument) e = absurd (not_two e)
 
-pub response_system : (setup : Setup) (registers : List ℕ) (m : Machine) → response setup registers m ≡ 4 → reason_in setup registers m ≡ System
+pub response_system : (setup : Setup) (registers : List ℕ) (m : Machine) → response setup registers m ≡ 4 → reason_in setup registers m ≡ Err System
 response_system setup registers m =
-    response_as setup registers m (λ (n : ℕ). n ≡ 4 → reason_in setup registers m ≡ System) (λ e. absurd (not_three e))
+    response_as setup registers m (λ (n : ℕ). n ≡ 4 → reason_in setup registers m ≡ Err System) (λ e. absurd (not_three e))
     (code_system m.session.version (reason_in setup registers m))
 
 -- ---- the completion code of a message that is taken
@@ -180,10 +172,10 @@ empty long = omega arith
 
 -- 84 hex is SYSTEM_ERROR to the command that was sent
 pub completed_system : (t : Taken) (setup : Setup) (bytes : List ℕ) (m : Machine) → completion_in (served_as t setup bytes m).response ≡ 0x84
-    → reason_in setup (registers_of m.session.version bytes) m ≡ System
-completed_system Short setup bytes m e = absurd (other 0x00 0x84 refl e)
-completed_system Foreign setup bytes m e = absurd (other 0xc1 0x84 refl e)
-completed_system Malformed setup bytes m e = absurd (other 0xc7 0x84 refl e)
+    → reason_in setup (registers_of m.session.version bytes) m ≡ Err System
+completed_system (Err Short) setup bytes m e = absurd (other 0x00 0x84 refl e)
+completed_system (Err Foreign) setup bytes m e = absurd (other 0xc1 0x84 refl e)
+completed_system (Err Malformed) setup bytes m e = absurd (other 0xc7 0x84 refl e)
 completed_system Command setup bytes m e =
     let registers = registers_of m.session.version bytes in
     let o = mediate setup registers m in
@@ -193,9 +185,9 @@ completed_system Command setup bytes m e =
 -- 00 in a response is the status 1 of a message that was taken
 pub completed : (t : Taken) (setup : Setup) (bytes : List ℕ) (m : Machine) → 3 ≤ length (served_as t setup bytes m).response
     → completion_in (served_as t setup bytes m).response ≡ 0x00 → (t ≡ Command) × (response setup (registers_of m.session.version bytes) m ≡ 1)
-completed Short setup bytes m long e = absurd (empty long)
-completed Foreign setup bytes m long e = absurd (other 0xc1 0x00 refl e)
-completed Malformed setup bytes m long e = absurd (other 0xc7 0x00 refl e)
+completed (Err Short) setup bytes m long e = absurd (empty long)
+completed (Err Foreign) setup bytes m long e = absurd (other 0xc1 0x00 refl e)
+completed (Err Malformed) setup bytes m long e = absurd (other 0xc7 0x00 refl e)
 completed Command setup bytes m long e =
     let registers = registers_of m.session.version bytes in
     let o = mediate setup registers m in

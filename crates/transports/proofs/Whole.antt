@@ -1,11 +1,6 @@
 -- The arguments of a success are the parameters of its response, and nothing else.
-use mathlib.Core.Path.{◌≡◌, refl, sym, subst, ◌∙◌}
-use mathlib.Core.Bool.{false, false≢true}
-use mathlib.Core.List.{List}
-use Prim.Native.Nat.{ℕ, zero, suc, min, ◌≤◌}
-use native.Mathlib.Omega.{arith}
-use lib.Dec.{eqb}
-use lib.ListN.{length, replicate}
+use Rattle.std.proofs.Common.{◌≡◌, refl, sym, subst, ◌∙◌, false, List, ℕ, zero, suc, min, ◌≤◌, arith, eqb, length, replicate}
+use mathlib.Core.Bool.{false≢true}
 use borrow.Author.Tests.{eqb-false}
 use Rattle.units.specs.Units.{round_up}
 use Rattle.units.proofs.Cases.{chosen}
@@ -17,8 +12,7 @@ use Rattle.session.specs.Marks.{dirty}
 use Rattle.session.specs.Record.{with_version}
 use Rattle.soundness.specs.Soundness.{sound_in}
 use Rattle.soundness.proofs.Facts.{measured}
-use Rattle.refusals.specs.declared.Reason.TheVariants.{Accepted}
-use Rattle.refusals.specs.Refusals.{flush_marks}
+use Rattle.refusals.specs.Refusals.{Accepted, flush_marks}
 use Rattle.refusals.proofs.Accepting.{Passed, passed}
 use Rattle.registers.specs.Registers.{command_of, argument}
 use Rattle.messages.specs.Parameters.{table, row_of}

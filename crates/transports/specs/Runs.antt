@@ -1,11 +1,10 @@
 -- Runs of calls with messages among them: what is said of any run of calls (crate invariants) holds of these. Proved in proofs/Runs.antt.
-use Rattle.std.specs.Prelude.{ℕ, ◌≡◌, true, List, [], ◌∷◌, ◌++◌}
+use Rattle.std.specs.Prelude.{Err, ℕ, ◌≡◌, true, List, [], ◌∷◌, ◌++◌}
 use Rattle.session.specs.Machine.{Setup, Machine}
 use Rattle.soundness.specs.Soundness.{sound_in}
 use Rattle.messages.specs.declared.Pair.{Pair}
-use Rattle.messages.specs.declared.Taken.{Taken}
-use Rattle.messages.specs.declared.Taken.TheVariants.{Short, Foreign, Malformed, Command}
-use Rattle.messages.specs.Messages.{taken_as, registers_of}
+use Rattle.messages.specs.declared.Refusal.TheVariants.{Short, Foreign, Malformed}
+use Rattle.messages.specs.Messages.{Taken, Command, taken_as, registers_of}
 use Rattle.mailbox.specs.Runs.{Call, send, called, called_all}
 use Rattle.ipmi.specs.Served.{served}
 use Rattle.transports.specs.Same.{completion_in}
@@ -27,9 +26,9 @@ left_all setup (input ∷ inputs) m = left_all setup inputs (left setup input m)
 
 -- the calls that a list of inputs stands for: a message that is refused stands for none, another for the command that it is unpacked to
 abbrev pub sent_for : Taken → ℕ → List ℕ → List Call
-sent_for Short version bytes = []
-sent_for Foreign version bytes = []
-sent_for Malformed version bytes = []
+sent_for (Err Short) version bytes = []
+sent_for (Err Foreign) version bytes = []
+sent_for (Err Malformed) version bytes = []
 sent_for Command version bytes = send (registers_of version bytes) ∷ []
 
 abbrev pub calls_for : Input → Machine → List Call
