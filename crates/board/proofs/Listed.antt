@@ -4,8 +4,8 @@ use mathlib.Core.Bool.{true, false, false≢true}
 use mathlib.Core.List.{List}
 use mathlib.Core.Logic.{⊎_elim}
 use Prim.Native.Nat.{ℕ}
+use Rattle.std.specs.Prelude.{Option}
 use Rattle.units.proofs.Cases.{decided}
-use Rattle.session.specs.declared.Previous.{Previous}
 use Rattle.session.specs.declared.Session.{Session}
 use Rattle.session.specs.Machine.{Setup}
 use Rattle.marklist.specs.MarkList.{list_code, listed}
@@ -46,7 +46,7 @@ record_listed setup flash worn memory list h =
     ⊎_elim
     (λ (e : is_regular h ≡ true).
     rw e (
-      ap (λ (p : Previous). yes_no (is_numbered p)) (previous setup flash worn memory list h) ∙ ap (λ (r : Record). r.numbered) (nothing_lost.1 h e),
+      ap (λ (p : Option ℕ). yes_no (is_numbered p)) (previous setup flash worn memory list h) ∙ ap (λ (r : Record). r.numbered) (nothing_lost.1 h e),
       ap (number_or h.previous) (previous setup flash worn memory list h) ∙ ap (λ (r : Record). r.previous) (nothing_lost.1 h e),
       λ n. ap (record_of h.previous) (stays setup flash worn memory list h n) ∙ nothing_lost.1 h e,
       λ q. absurd (false≢true (sym q)),

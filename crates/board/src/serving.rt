@@ -5,7 +5,7 @@ ghost use Rattle.board.specs.Calls.{board, left, commanded};
 ghost use Rattle.board.specs.Record.{session_of, afterwards};
 
 use crate::Record;
-use crate::convert::{is_regular, record_of, session_of};
+use crate::convert::{is_regular, record_of};
 use mailbox::command;
 use session::{Board, Session};
 
@@ -37,10 +37,9 @@ pub fn serve(
     let board = Board { lpc, timeout };
     let session = served_session(held, regular);
     let answer = command(session, registers, board, flash, worn, memory);
-    let replied = answer.registers;
     Served {
         held: kept_record(held, regular, answer.session),
-        registers: replied,
+        registers: answer.registers,
         actions: answer.actions,
     }
 }
@@ -50,7 +49,7 @@ pub fn serve(
 fn served_session(held: Record, regular: bool) -> Session
     ensures { result ≡ cond regular (session_of held) (with_version 255 (session_of held)) }
 {
-    let mut session = session_of(held);
+    let mut session = Session::from(held);
     if !regular {
         session.version = UNSOUND_VERSION;
     }
@@ -84,9 +83,8 @@ pub fn hiomap_command(
     ensures { left held.new registers.new result flash.new memory.new
         ≡ commanded (board lpc timeout) held.old registers.old flash.old worn.now memory.old }
 {
-    let answer = serve(*held, *registers, lpc, timeout, flash, worn, memory);
-    let replied = answer.registers;
-    *held = answer.held;
-    *registers = replied;
-    answer.actions
+    let served = serve(*held, *registers, lpc, timeout, flash, worn, memory);
+    *held = served.held;
+    *registers = served.registers;
+    served.actions
 }

@@ -5,7 +5,7 @@ ghost use Rattle.ipmiboard.specs.Messages.{reply_of, tells_message, mediated_rec
 
 use crate::MessageReply;
 use board::{Record, serve};
-use messages::{Pair, Response, Taken, open_message, pack, refuse};
+use messages::{Pair, Response, open_message, pack, refuse};
 
 // What a message gives back.
 #[derive(Clone, Copy)]
@@ -29,14 +29,11 @@ pub(crate) fn serve_message(
     ensures { tells_message result flash.new memory.new
         ≡ messaged_record (board lpc timeout) (record { netfn = netfn; command = command }) message.now held flash.old worn.now memory.old }
 {
-    let opened = open_message(Pair { netfn, command }, held.version, message);
-    let taken = opened.taken;
-    let registers = opened.registers;
-    match taken {
-        Taken::Command => serve_command(
+    match open_message(Pair { netfn, command }, held.version, message) {
+        Ok(registers) => serve_command(
             held, message, registers, lpc, timeout, flash, worn, memory,
         ),
-        _ => with_response(held, refuse(taken, message), 0),
+        Err(refused) => with_response(held, refuse(refused, message), 0),
     }
 }
 
@@ -55,20 +52,18 @@ fn serve_command(
         ≡ mediated_record message.now (commanded (board lpc timeout) held registers flash.old worn.now memory.old) }
 {
     let served = serve(held, registers, lpc, timeout, flash, worn, memory);
-    let after = served.held;
-    let replied = served.registers;
-    with_response(after, pack(message, after.version, replied), served.actions)
+    let response = pack(message, served.held.version, served.registers);
+    with_response(served.held, response, served.actions)
 }
 
 // The record with the response as C has it.
 fn with_response(held: Record, response: Response, actions: u32) -> ServedMessage
     ensures { result ≡ record { held = held; reply = reply_of response actions } }
 {
-    let bytes = response.bytes;
     ServedMessage {
         held,
         reply: MessageReply {
-            response: bytes,
+            response: response.bytes,
             length: response.length,
             actions,
         },

@@ -34,10 +34,9 @@ pub fn serve(
         ≡ mediate (set_up board) registers (lent session.old flash.old worn.now memory.old) }
 {
     let answer = command(*session, registers, board, flash, worn, memory);
-    let replied = answer.registers;
     *session = answer.session;
     Reply {
-        registers: replied,
+        registers: answer.registers,
         actions: answer.actions,
     }
 }
