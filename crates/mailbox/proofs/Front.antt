@@ -19,9 +19,8 @@ use Rattle.session.specs.declared.Window.{Window}
 use Rattle.session.specs.Machine.{Setup, Machine}
 use Rattle.soundness.specs.Soundness.{size_sound}
 use Rattle.soundness.proofs.Facts.{sized, counted}
-use Rattle.refusals.specs.declared.Reason.TheVariants.{Accepted}
 use Rattle.refusals.specs.declared.Needs.TheVariants.{Access}
-use Rattle.refusals.specs.Refusals.{reason_for}
+use Rattle.refusals.specs.Refusals.{Accepted, reason_for}
 use Rattle.refusals.proofs.Accepting.{passed}
 use Rattle.registers.specs.Registers.{number, bytes_of, padded}
 use Rattle.mailbox.specs.Commands.{size_for, opening}

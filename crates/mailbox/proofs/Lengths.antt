@@ -18,9 +18,8 @@ use Rattle.session.specs.Machine.{Setup, Machine, lent, holding}
 use Rattle.soundness.specs.Soundness.{sound_in}
 use Rattle.soundness.proofs.Facts.{measured}
 use Rattle.flush.specs.Window.{flush_whole}
-use Rattle.refusals.specs.declared.Reason.TheVariants.{Accepted}
 use Rattle.refusals.specs.declared.Needs.TheVariants.{Access, WriteWindow}
-use Rattle.refusals.specs.Refusals.{blocks_named}
+use Rattle.refusals.specs.Refusals.{Accepted, blocks_named}
 use Rattle.refusals.proofs.Accepting.{passed, named_within}
 use Rattle.registers.specs.Registers.{command_of, number}
 use Rattle.mailbox.specs.Commands.{Outcome, numbered, numbered_in, size_for, hint, created, flushing}

@@ -7,22 +7,22 @@ use native.Mathlib.Nat.{le_trans}
 use lib.Dec.{eqb}
 use lib.ListN.{length}
 use borrow.Author.Tests.{eqb-true, ne_eqb}
+use Rattle.std.specs.Prelude.{Err}
 use Rattle.units.specs.Units.{to_bytes, round_up}
 use Rattle.units.proofs.Cases.{chosen}
 use Rattle.session.specs.Machine.{Setup, Machine}
 use Rattle.session.specs.Marks.{counts_of}
 use Rattle.soundness.specs.Soundness.{size_sound, sound_in}
 use Rattle.soundness.proofs.Facts.{sizes, part_within, measured}
-use Rattle.refusals.specs.declared.Reason.{Reason}
-use Rattle.refusals.specs.declared.Reason.TheVariants.{Accepted, System, Repeated, Unknown, Suspended, Windowless, Argument}
+use Rattle.refusals.specs.declared.Reason.TheVariants.{System, Repeated, Unknown, Suspended, Windowless, Argument}
 use Rattle.registers.specs.Registers.{command_of}
-use Rattle.refusals.specs.Refusals.{reason_for, code_for}
+use Rattle.refusals.specs.Refusals.{Checked, Accepted, reason_for, code_for}
 use Rattle.mailbox.specs.Commands.{Outcome, numbered_in, refused}
 use Rattle.mailbox.specs.Table.{Command, reset, get_info, get_flash_info, create_read_window, close_window, create_write_window, mark_dirty, flush, ack, erase, unknown}
 use Rattle.mailbox.specs.Mediator.{command_at, reason_of, answer_to, obeyed, command_in, reason_in, mediate}
 
 -- ---- the reason, by what the code was told of the row and what it found of the arguments
-pub asked_as : (c : Command) (registers : List ℕ) (m : Machine) {known broken : Bool} {r : Reason}
+pub asked_as : (c : Command) (registers : List ℕ) (m : Machine) {known broken : Bool} {r : Checked}
     → r ≡ reason_for true m.session registers known c.needs broken
     → known ≡ c.known m.session.version → broken ≡ c.broken m.session registers (round_up (length m.flash))
     → r ≡ reason_of c true registers m
@@ -32,21 +32,21 @@ asked_as c registers m {known} {broken} {r} e k b =
     ∙ ap (reason_for true m.session registers (c.known m.session.version) c.needs) b
 
 -- ---- a command, by the reason that the checks gave
-module _ (c : Command) (setup : Setup) (registers : List ℕ) (m : Machine) (r : Reason) (e : r ≡ reason_of c true registers m) where
+module _ (c : Command) (setup : Setup) (registers : List ℕ) (m : Machine) (r : Checked) (e : r ≡ reason_of c true registers m) where
   pub refused_by : answer_to r c setup registers m ≡ obeyed c true setup registers m
   unfolding obeyed
-  refused_by = ap (λ (q : Reason). answer_to q c setup registers m) e
+  refused_by = ap (λ (q : Checked). answer_to q c setup registers m) e
 
   pub accepted_by : r ≡ Accepted → c.leaves setup registers (numbered_in registers m) ≡ obeyed c true setup registers m
   unfolding answer_to
-  accepted_by a = sym (ap (λ (q : Reason). answer_to q c setup registers m) a) ∙ refused_by
+  accepted_by a = sym (ap (λ (q : Checked). answer_to q c setup registers m) a) ∙ refused_by
 
 -- ---- the mediator
 -- by the first check that refuses
-pub mediate_as : (setup : Setup) (registers : List ℕ) (m : Machine) (r : Reason) → reason_in setup registers m ≡ r
+pub mediate_as : (setup : Setup) (registers : List ℕ) (m : Machine) (r : Checked) → reason_in setup registers m ≡ r
     → mediate setup registers m ≡ answer_to r (command_in registers) setup registers m
 unfolding mediate obeyed
-mediate_as setup registers m r e = ap (λ (q : Reason). answer_to q (command_in registers) setup registers m) e
+mediate_as setup registers m r e = ap (λ (q : Checked). answer_to q (command_in registers) setup registers m) e
 
 -- where none does, what the row of its code leaves
 pub carried : (setup : Setup) (registers : List ℕ) (m : Machine) (code : ℕ) → command_of registers ≡ code → reason_in setup registers m ≡ Accepted
@@ -64,17 +64,17 @@ pub each_answer : (P : Outcome → Type 0) (setup : Setup) (registers : List ℕ
 unfolding mediate obeyed answer_to
 each_answer P setup registers m served broken late system = by (reason_in setup registers m) refl
   where
-    code : Reason → ℕ
+    code : Checked → ℕ
     code r = code_for m.session.version r
 
-    by : (r : Reason) → reason_in setup registers m ≡ r → P (answer_to r (command_in registers) setup registers m)
+    by : (r : Checked) → reason_in setup registers m ≡ r → P (answer_to r (command_in registers) setup registers m)
     by Accepted a = served a
-    by System a = system (code System)
-    by Repeated a = late (code Repeated)
-    by Unknown a = late (code Unknown)
-    by Suspended a = late (code Suspended)
-    by Windowless a = late (code Windowless)
-    by Argument a = broken (code Argument)
+    by (Err System) a = system (code (Err System))
+    by (Err Repeated) a = late (code (Err Repeated))
+    by (Err Unknown) a = late (code (Err Unknown))
+    by (Err Suspended) a = late (code (Err Suspended))
+    by (Err Windowless) a = late (code (Err Windowless))
+    by (Err Argument) a = broken (code (Err Argument))
 
 -- where the sizes, B or the session are not sound
 pub unsound_as : (setup : Setup) (registers : List ℕ) (m : Machine) → sound_in setup m ≡ false → mediate setup registers m ≡ refused 4 registers m

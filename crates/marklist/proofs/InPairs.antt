@@ -10,9 +10,9 @@ use lib.Dec.{leb, ltb, eqb}
 use lib.ListN.{length, get_or, drop, length-drop}
 use lib.Seq.{drop-cons}
 use Rattle.units.proofs.Cases.{passed_by}
-use Rattle.marklist.specs.declared.ListAnswer.{ListAnswer}
-use Rattle.marklist.specs.declared.ListAnswer.TheVariants.{Marked, Outside}
-use Rattle.marklist.specs.MarkList.{Pair, pairs_of, malformed, first_outside}
+use Rattle.std.specs.Prelude.{Err}
+use Rattle.marklist.specs.declared.ListError.TheVariants.{Outside}
+use Rattle.marklist.specs.MarkList.{Pair, ListAnswer, Marked, pairs_of, malformed, first_outside}
 
 -- a list that is not malformed is short
 pub formed_few : (numbers : ℕ) → malformed numbers ≡ false → numbers ≤ 128
@@ -44,11 +44,11 @@ pair_at list place h =
 
 -- the answer for the pairs from a place on, by the first of them
 answer_at : (size place : ℕ) (list : List ℕ) → 2 * place + 1 < length list → first_outside size place (pairs_of (drop (2 * place) list))
-    ≡ cond (not (leb (get_or list (2 * place) 0 + get_or list (2 * place + 1) 0) size)) (Outside place)
+    ≡ cond (not (leb (get_or list (2 * place) 0 + get_or list (2 * place + 1) 0) size)) (Err (Outside place))
     (first_outside size (place + 1) (pairs_of (drop (2 * (place + 1)) list)))
 answer_at size place list h =
     ap (first_outside size place) (pair_at list place h)
-    ∙ ap (λ (n : ℕ). cond (not (leb (get_or list (2 * place) 0 + get_or list (2 * place + 1) 0) size)) (Outside place)
+    ∙ ap (λ (n : ℕ). cond (not (leb (get_or list (2 * place) 0 + get_or list (2 * place + 1) 0) size)) (Err (Outside place))
     (first_outside size n (pairs_of (drop (2 * (place + 1)) list)))) one
   where
     one : suc place ≡ place + 1
@@ -56,17 +56,17 @@ answer_at size place list h =
 
 pub answer_outside : (size place : ℕ) (list : List ℕ) → 2 * place + 1 < length list
     → leb (get_or list (2 * place) 0 + get_or list (2 * place + 1) 0) size ≡ false
-    → Outside place ≡ first_outside size place (pairs_of (drop (2 * place) list))
+    → Err (Outside place) ≡ first_outside size place (pairs_of (drop (2 * place) list))
 answer_outside size place list h e =
     sym (answer_at size place list h
-    ∙ ap (λ (inside : Bool). cond (not inside) (Outside place) (first_outside size (place + 1) (pairs_of (drop (2 * (place + 1)) list)))) e)
+    ∙ ap (λ (inside : Bool). cond (not inside) (Err (Outside place)) (first_outside size (place + 1) (pairs_of (drop (2 * (place + 1)) list)))) e)
 
 pub answer_inside : (size place : ℕ) (list : List ℕ) → 2 * place + 1 < length list
     → leb (get_or list (2 * place) 0 + get_or list (2 * place + 1) 0) size ≡ true
     → first_outside size (place + 1) (pairs_of (drop (2 * (place + 1)) list)) ≡ first_outside size place (pairs_of (drop (2 * place) list))
 answer_inside size place list h e =
     sym (answer_at size place list h
-    ∙ ap (λ (inside : Bool). cond (not inside) (Outside place) (first_outside size (place + 1) (pairs_of (drop (2 * (place + 1)) list)))) e)
+    ∙ ap (λ (inside : Bool). cond (not inside) (Err (Outside place)) (first_outside size (place + 1) (pairs_of (drop (2 * (place + 1)) list)))) e)
 
 -- no pair is left
 no_pair : (list : List ℕ) → length list < 2 → pairs_of list ≡ []
@@ -78,12 +78,12 @@ pub none_left : (list : List ℕ) (at : ℕ) → length list < at + 2 → pairs_
 none_left list at h = no_pair (drop at list) (rw length-drop (omega arith))
 
 -- where no pair lies outside, the first lies inside, and none of the rest outside
-front_inside : (inside : Bool) (place : ℕ) (rest : ListAnswer) → cond (not inside) (Outside place) rest ≡ Marked → (inside ≡ true) × (rest ≡ Marked)
+front_inside : (inside : Bool) (place : ℕ) (rest : ListAnswer) → cond (not inside) (Err (Outside place)) rest ≡ Marked → (inside ≡ true) × (rest ≡ Marked)
 front_inside inside place rest e =
-    let f = passed_by (λ (a : ListAnswer). a ≡ Marked) (not inside) (Outside place) rest refused e in
+    let f = passed_by (λ (a : ListAnswer). a ≡ Marked) (not inside) (Err (Outside place)) rest refused e in
     (not-false inside f.0, f.1)
   where
-    refused : Outside place ≡ Marked → ⊥
+    refused : Err (Outside place) ≡ Marked → ⊥
     refused q = let z : ◌≡◌ {A = ℕ} 0 1 = cc in omega arith
 
 pub inside_front : (size place : ℕ) (pair : Pair) (pairs : List Pair) → first_outside size place (pair ∷ pairs) ≡ Marked
@@ -104,6 +104,6 @@ pub inside_larger : (size most place : ℕ) (pairs : List Pair) → size ≤ mos
 inside_larger size most place [] h e = refl
 inside_larger size most place (pair ∷ pairs) h e =
     let f = inside_front size place pair pairs e in
-    ap (λ (b : Bool). cond (not b) (Outside place) (first_outside most (suc place) pairs))
+    ap (λ (b : Bool). cond (not b) (Err (Outside place)) (first_outside most (suc place) pairs))
     (le-leb (pair.block + pair.count) most (le_trans f.0 h))
     ∙ inside_larger size most (suc place) pairs h f.1

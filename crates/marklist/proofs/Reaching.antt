@@ -13,8 +13,7 @@ use Rattle.units.proofs.Cases.{below_or}
 use Rattle.buffers.specs.Ranges.{replace}
 use Rattle.buffers.proofs.Replace.{replace_length, replace_before, replace_inside, replace_after}
 use Rattle.session.specs.Marks.{dirty}
-use Rattle.marklist.specs.declared.ListAnswer.TheVariants.{Marked}
-use Rattle.marklist.specs.MarkList.{Pair, first_outside, mark_pairs, is_listed}
+use Rattle.marklist.specs.MarkList.{Pair, Marked, first_outside, mark_pairs, is_listed}
 use Rattle.marklist.specs.Reach.{ends_from, no_ends, farthest}
 use Rattle.marklist.proofs.InPairs.{inside_front}
 

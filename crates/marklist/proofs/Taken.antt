@@ -7,23 +7,16 @@ use native.Mathlib.Omega.{arith}
 use borrow.Author.Tests.{not-true, not-false}
 use lib.Dec.{eqb}
 use lib.ListN.{length}
-use denote.Enum.Declared.{tag_of}
-use types.Run.{OneOf}
 use Rattle.units.proofs.Cases.{chosen}
-use Rattle.units.proofs.Keys.{none_of}
-use Rattle.session.specs.contracts.Window.{the_type as window-type}
-use Rattle.marklist.specs.contracts.ListAnswer.{the_type as answer-type}
 use Rattle.session.specs.declared.Session.{Session}
-use Rattle.session.specs.declared.Window.{Window}
-use Rattle.session.specs.declared.Window.TheVariants.{Closed, Read, Write}
 use Rattle.session.specs.Machine.{Setup, Machine}
 use Rattle.session.specs.Record.{with_marks}
 use Rattle.soundness.specs.Soundness.{sound_at, sound_in}
 use Rattle.soundness.proofs.Facts.{measured}
 use Rattle.refusals.specs.Refusals.{is_write}
-use Rattle.marklist.specs.declared.ListAnswer.{ListAnswer}
-use Rattle.marklist.specs.declared.ListAnswer.TheVariants.{Marked, Unsound, OtherVersion, Suspended, Windowless, Malformed, Outside}
-use Rattle.marklist.specs.MarkList.{Pair, list_code, malformed, is_inside, pairs_of, first_outside, answer_for, mark_pairs, session_for, listed, listed_in}
+use Rattle.std.specs.Prelude.{Err}
+use Rattle.marklist.specs.declared.ListError.TheVariants.{Unsound, OtherVersion, Suspended, Windowless, Malformed, Outside}
+use Rattle.marklist.specs.MarkList.{Pair, ListAnswer, Marked, list_code, malformed, is_inside, pairs_of, first_outside, answer_for, mark_pairs, session_for, listed, listed_in}
 use Rattle.marklist.proofs.InPairs.{inside_larger}
 
 pub record Taken (sound : Bool) (list : List ℕ) (s : Session) : Type 0 where
@@ -33,34 +26,28 @@ pub record Taken (sound : Bool) (list : List ℕ) (s : Session) : Type 0 where
   pub writes : is_write s.window ≡ true
   pub formed : malformed (length list) ≡ false
 
--- a window that is none to write in, as the code tells it apart
-pub not_write : (w : Window) → OneOf (0 ∷ 1 ∷ []) (tag_of window-type w) → is_write w ≡ false
-not_write Closed o = refl
-not_write Read o = refl
-not_write Write o = absurd (none_of (0 ∷ 1 ∷ []) 2 refl o)
-
 -- an answer that the pairs give, and none of the first five checks
 abbrev pub of_pairs : ListAnswer → Bool
 of_pairs Marked = true
-of_pairs Unsound = false
-of_pairs OtherVersion = false
-of_pairs Suspended = false
-of_pairs Windowless = false
-of_pairs Malformed = false
-of_pairs (Outside place) = true
+of_pairs (Err Unsound) = false
+of_pairs (Err OtherVersion) = false
+of_pairs (Err Suspended) = false
+of_pairs (Err Windowless) = false
+of_pairs (Err Malformed) = false
+of_pairs (Err (Outside place)) = true
 
 -- what holds of each refusal where its check refuses, and of what the pairs give where none does, holds of the answer
-pub each_check : (P : ListAnswer → Type 0) (sound : Bool) (list : List ℕ) (s : Session) → (sound ≡ false → P Unsound)
-    → (eqb s.version 2 ≡ false → P OtherVersion) → (s.suspended ≡ true → P Suspended)
-    → (s.suspended ≡ false → is_write s.window ≡ false → P Windowless) → (malformed (length list) ≡ true → P Malformed)
+pub each_check : (P : ListAnswer → Type 0) (sound : Bool) (list : List ℕ) (s : Session) → (sound ≡ false → P (Err Unsound))
+    → (eqb s.version 2 ≡ false → P (Err OtherVersion)) → (s.suspended ≡ true → P (Err Suspended))
+    → (s.suspended ≡ false → is_write s.window ≡ false → P (Err Windowless)) → (malformed (length list) ≡ true → P (Err Malformed))
     → (Taken sound list s → P (first_outside s.size 0 (pairs_of list))) → P (answer_for sound list s)
 unfolding answer_for
 each_check P sound list s unsound other suspended windowless odd pairs =
-    chosen P (not sound) Unsound _ (λ e. unsound (not-true sound e)) λ sounds.
-    chosen P (not (eqb s.version 2)) OtherVersion _ (λ e. other (not-true (eqb s.version 2) e)) λ two.
-    chosen P s.suspended Suspended _ suspended λ awake.
-    chosen P (not (is_write s.window)) Windowless _ (λ e. windowless awake (not-true (is_write s.window) e)) λ writes.
-    chosen P (malformed (length list)) Malformed _ odd λ formed.
+    chosen P (not sound) (Err Unsound) _ (λ e. unsound (not-true sound e)) λ sounds.
+    chosen P (not (eqb s.version 2)) (Err OtherVersion) _ (λ e. other (not-true (eqb s.version 2) e)) λ two.
+    chosen P s.suspended (Err Suspended) _ suspended λ awake.
+    chosen P (not (is_write s.window)) (Err Windowless) _ (λ e. windowless awake (not-true (is_write s.window) e)) λ writes.
+    chosen P (malformed (length list)) (Err Malformed) _ odd λ formed.
     pairs
     (record {
       sounds = not-false sound sounds;
@@ -74,7 +61,7 @@ pub taken : (sound : Bool) (list : List ℕ) (s : Session) (a : ListAnswer) → 
     → Taken sound list s × (first_outside s.size 0 (pairs_of list) ≡ a)
 taken sound list s a o =
     each_check (λ (b : ListAnswer). b ≡ a → Taken sound list s × (first_outside s.size 0 (pairs_of list) ≡ a)) sound list s
-    (λ _ e. no Unsound refl e) (λ _ e. no OtherVersion refl e) (λ _ e. no Suspended refl e) (λ _ _ e. no Windowless refl e) (λ _ e. no Malformed refl e)
+    (λ _ e. no (Err Unsound) refl e) (λ _ e. no (Err OtherVersion) refl e) (λ _ e. no (Err Suspended) refl e) (λ _ _ e. no (Err Windowless) refl e) (λ _ e. no (Err Malformed) refl e)
     (λ t e. (t, e))
   where
     no : (r : ListAnswer) → of_pairs r ≡ false → r ≡ a → Taken sound list s × (first_outside s.size 0 (pairs_of list) ≡ a)
@@ -84,16 +71,6 @@ taken sound list s a o =
 pub answer_taken : (sound : Bool) (list : List ℕ) (s : Session) → Taken sound list s → answer_for sound list s ≡ first_outside s.size 0 (pairs_of list)
 unfolding answer_for
 answer_taken sound list s t = rw (t.sounds, t.is_two, t.awake, t.writes, t.formed)
-
--- a refused list, as the code tells it apart, leaves the session as it was
-pub kept : (a : ListAnswer) (list : List ℕ) (s : Session) → OneOf (1 ∷ 2 ∷ 3 ∷ 4 ∷ 5 ∷ 6 ∷ []) (tag_of answer-type a) → s ≡ session_for a list s
-kept Marked list s o = absurd (none_of (1 ∷ 2 ∷ 3 ∷ 4 ∷ 5 ∷ 6 ∷ []) 0 refl o)
-kept Unsound list s o = refl
-kept OtherVersion list s o = refl
-kept Suspended list s o = refl
-kept Windowless list s o = refl
-kept Malformed list s o = refl
-kept (Outside place) list s o = refl
 
 -- the pairs of a list that is marked lie in the 64 marks
 pub within_marks : (setup : Setup) (flash worn memory : ℕ) (list : List ℕ) (s : Session) → answer_for (sound_at setup flash worn memory s) list s ≡ Marked
@@ -113,12 +90,12 @@ listed_left P setup flash worn memory list s same marked = go (answer_for (sound
   where
     go : (a : ListAnswer) → answer_for (sound_at setup flash worn memory s) list s ≡ a → P (session_for a list s)
     go Marked e = marked e
-    go Unsound e = same
-    go OtherVersion e = same
-    go Suspended e = same
-    go Windowless e = same
-    go Malformed e = same
-    go (Outside place) e = same
+    go (Err Unsound) e = same
+    go (Err OtherVersion) e = same
+    go (Err Suspended) e = same
+    go (Err Windowless) e = same
+    go (Err Malformed) e = same
+    go (Err (Outside place)) e = same
 
 pub list_left : (P : Session → Type 0) (setup : Setup) (list : List ℕ) (m : Machine) → P m.session
     → (answer_for (sound_in setup m) list m.session ≡ Marked → P (with_marks (mark_pairs (pairs_of list) m.session.marks) m.session))
@@ -136,7 +113,7 @@ list_answer setup list m = listed_answer setup (length m.flash) (length m.worn) 
 
 -- both, where the sizes, B or the session are not sound
 pub listed_unsound : (setup : Setup) (flash worn memory : ℕ) (list : List ℕ) (s : Session) → sound_at setup flash worn memory s ≡ false
-    → listed setup flash worn memory list s ≡ record { session = s; answer = Unsound }
+    → listed setup flash worn memory list s ≡ record { session = s; answer = (Err Unsound) }
 unfolding listed answer_for
 listed_unsound setup flash worn memory list s e = rw e
 
@@ -144,6 +121,6 @@ listed_unsound setup flash worn memory list s e = rw e
 pub pairs_code : (P : ℕ → Type 0) → P 1 → P 2 → (size place : ℕ) (pairs : List Pair) → P (list_code (first_outside size place pairs))
 pairs_code P one two size place [] = one
 pairs_code P one two size place (pair ∷ pairs) =
-    chosen (λ (a : ListAnswer). P (list_code a)) (not (is_inside size pair)) (Outside place) (first_outside size (suc place) pairs)
+    chosen (λ (a : ListAnswer). P (list_code a)) (not (is_inside size pair)) (Err (Outside place)) (first_outside size (suc place) pairs)
     (λ _. two)
     (λ _. pairs_code P one two size (suc place) pairs)

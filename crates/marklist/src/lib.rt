@@ -31,7 +31,7 @@ pub enum ListError {
 }
 
 // Marks all pairs of the list dirty, or changes nothing. The previous sequence number has no part in it.
-#[tactic(auto, unfolding(crate::specs::MarkList::listed))]
+#[tactic(auto, using(crate::proofs::Taken::within_marks), unfolding(crate::specs::MarkList::listed))]
 pub fn mark_list(
     session: Session,
     list: &[u16],

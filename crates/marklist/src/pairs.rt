@@ -6,21 +6,17 @@ ghost use Rattle.marklist.specs.Reach.{ends_from, no_ends, farthest};
 
 use crate::ListError;
 use session::DIRTY;
-use soundness::larger;
 
 // The first pair that does not lie in a window of this size, or that all may be marked.
 pub(crate) fn first_outside(list: &[u16], size: u16) -> Result<(), ListError>
     requires { length list.now ≤ 128 }
     ensures { result ≡ first_outside size 0 (pairs_of list.now) }
 {
-    let pairs = list.len() / 2;
-    let mut place = 0;
-    while place < pairs {
+    for place in 0..list.len() / 2 {
         let at = 2 * place;
         if !is_inside(list[at], list[at + 1], size) {
             return Err(ListError::Outside(place as u8));
         }
-        place += 1;
     }
     Ok(())
 }
@@ -48,15 +44,12 @@ fn farthest_ends(list: &[u16]) -> [u8; 65]
     requires { first_outside 64 0 (pairs_of list.now) ≡ Marked }
     ensures { result ≡ ends_from (pairs_of list.now) no_ends }
 {
-    let pairs = list.len() / 2;
-    let mut ends = [0; 65];
-    let mut place = 0;
-    while place < pairs {
+    let mut ends = [0u8; 65];
+    for place in 0..list.len() / 2 {
         let at = 2 * place;
         let block = list[at] as usize;
         let end = list[at] + list[at + 1];
-        ends[block] = larger(ends[block], end as u8);
-        place += 1;
+        ends[block] = ends[block].max(end as u8);
     }
     ends
 }
@@ -66,12 +59,10 @@ fn mark_reached(marks: [u8; 64], ends: [u8; 65]) -> [u8; 64]
     ensures { (block : ℕ) → block < 64 → get_or result block 0 ≡ cond (ltb block (farthest (suc block) ends)) dirty (get_or marks block 0) }
 {
     let mut next = marks;
-    let mut reach: u8 = 0;
-    let mut at = 0;
-    while at < 64 {
-        reach = larger(reach, ends[at]);
+    let mut reach = 0u8;
+    for at in 0..64 {
+        reach = reach.max(ends[at]);
         next[at] = dirty_if(at < reach as usize, marks[at]);
-        at += 1;
     }
     next
 }

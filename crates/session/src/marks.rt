@@ -4,7 +4,7 @@ ghost use Rattle.session.specs.Marks.{erases, programs, of_kind, same_counts, no
 
 use crate::Counts;
 
-// Nothing is asked.
+// Nothing is asked. Marks are bytes and no enum: C's record may hold any byte, and each is answered.
 pub(crate) const CLEAN: u8 = 0;
 
 // The block is to become the window's bytes.
@@ -23,10 +23,7 @@ pub const ZERO_COUNTS: Counts = Counts {
 pub fn mark_erases(mark: u8) -> bool
     ensures { result ≡ erases mark }
 {
-    if mark == DIRTY {
-        return true;
-    }
-    mark == ERASED
+    matches!(mark, DIRTY | ERASED)
 }
 
 // Whether its pages are programmed.
@@ -40,17 +37,14 @@ pub fn mark_programs(mark: u8) -> bool
 pub fn of_kind(mark: u8, kind: u8) -> u8
     ensures { result ≡ of_kind kind mark }
 {
-    if mark == kind { 1 } else { 0 }
+    u8::from(mark == kind)
 }
 
 // Whether the number of each kind is the same in both.
 pub fn same_counts(counts: Counts, others: Counts) -> bool
     ensures { result ≡ same_counts counts others }
 {
-    if counts.dirty != others.dirty {
-        return false;
-    }
-    counts.erased == others.erased
+    counts == others
 }
 
 // Whether nothing is marked, by these numbers.

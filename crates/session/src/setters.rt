@@ -1,5 +1,5 @@
-// The session with some of its fields changed. A new field of the session is named here, in `new_session` and
-// in C's record (crate board).
+// The session with some of its fields changed. A new field of the session is named in `new_session`, in the setters of
+// specs/Record and in C's record (crate board).
 ghost use Rattle.std.specs.Prelude.{◌≡◌};
 ghost use Rattle.session.specs.Record.{with_version, with_previous, with_access, with_counted, with_marks, with_window, drop_window, clean};
 
@@ -10,28 +10,16 @@ use crate::{Counts, Session, Window};
 pub fn with_version(session: Session, version: u8) -> Session
     ensures { result ≡ with_version version session }
 {
-    let mut next = session;
-    next.version = version;
-    next
+    Session { version, ..session }
 }
 
 // Another previous sequence number.
 pub fn with_previous(session: Session, previous: Option<u8>) -> Session
     ensures { result ≡ with_previous previous session }
 {
-    let window = session.window;
-    let counts = session.counts;
-    let marks = session.marks;
     Session {
-        version: session.version,
         previous,
-        events: session.events,
-        suspended: session.suspended,
-        window,
-        first: session.first,
-        size: session.size,
-        counts,
-        marks,
+        ..session
     }
 }
 
@@ -39,20 +27,22 @@ pub fn with_previous(session: Session, previous: Option<u8>) -> Session
 pub fn with_access(session: Session, suspended: bool, events: u8) -> Session
     ensures { result ≡ with_access suspended events session }
 {
-    let mut next = session;
-    next.suspended = suspended;
-    next.events = events;
-    next
+    Session {
+        suspended,
+        events,
+        ..session
+    }
 }
 
 // Other marks, and the numbers kept of them.
 pub fn with_counted(session: Session, marks: [u8; 64], counts: Counts) -> Session
     ensures { result ≡ with_counted marks counts session }
 {
-    let mut next = session;
-    next.counts = counts;
-    next.marks = marks;
-    next
+    Session {
+        counts,
+        marks,
+        ..session
+    }
 }
 
 // Nothing marked.
@@ -66,17 +56,13 @@ pub fn without_marks(session: Session) -> Session
 pub fn with_window(session: Session, window: Window, first: u16, size: u16) -> Session
     ensures { result ≡ with_window window first size session }
 {
-    let previous = session.previous;
     Session {
-        version: session.version,
-        previous,
-        events: session.events,
-        suspended: session.suspended,
         window,
         first,
         size,
         counts: ZERO_COUNTS,
         marks: [CLEAN; 64],
+        ..session
     }
 }
 
