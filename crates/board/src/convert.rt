@@ -22,6 +22,8 @@ impl From<Record> for Session {
     ghost from_gives = { λ held session. session ≡ session_of held };
 
     fn from(held: Record) -> Session {
+        // through a variable: straight, the copy of an array out of C's record gets no proof
+        let marks = held.marks;
         Session {
             version: held.version,
             previous: (held.numbered != 0).then_some(held.previous),
@@ -34,7 +36,7 @@ impl From<Record> for Session {
                 dirty: held.dirty,
                 erased: held.erased,
             },
-            marks: held.marks,
+            marks,
         }
     }
 }

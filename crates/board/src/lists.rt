@@ -30,6 +30,7 @@ pub fn hiomap_mark_list(
 }
 
 // Marks all pairs of the list dirty. A record with a number that stands for nothing is refused.
+#[tactic(auto, using(crate::proofs::Listed::list_irregular, crate::proofs::Listed::list_marked, crate::proofs::Listed::list_refused))]
 fn mark_all(
     held: Record,
     list: &[u16],
