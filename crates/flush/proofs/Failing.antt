@@ -9,12 +9,15 @@ use native.Mathlib.Omega.{arith}
 use lib.Dec.{ltb}
 use lib.ListN.{length, get_or, take, drop, replicate, length-replicate, drop_of_length-le, take-append-drop}
 use lib.Seq.{length-take-le}
-use borrow.Author.Tests.{lt-ltb, le-ltb}
+use borrow.Author.Tests.{lt-ltb, le-ltb, ltb-false}
+use Rattle.std.specs.Prelude.{cond, None, Some, is_some}
+use Rattle.session.specs.Record.{clean}
+use Rattle.flush.specs.Window.{left_marks}
 use Rattle.units.proofs.Cases.{decided, below_or, both}
 use Rattle.buffers.specs.Ranges.{replace}
 use Rattle.session.specs.Marks.{erases}
 use Rattle.flush.specs.Actions.{Action, erase, pages_from, block_actions, actions_from, flush_actions}
-use Rattle.flush.specs.Worn.{is_worn, fails, until_failure, some_fail, finished_from, finished_blocks, marks_kept}
+use Rattle.flush.specs.Worn.{is_worn, fails, until_failure, some_fail, finished_from, finished_blocks, failing_block, finished_by, marks_kept}
 use Rattle.flush.proofs.Lists.{by_asked, clear_none, actions_append}
 
 -- one more on both sides
@@ -232,6 +235,30 @@ module _ (worn marks : List ℕ) where
   pub none_worn_lem : ((b : ℕ) → erases (get_or marks b 0) ≡ true → is_worn worn b ≡ false) → some_fail worn (flush_actions marks) ≡ false
   unfolding flush_actions
   none_worn_lem good = good_from worn 0 marks (λ b e. ap (λ (n : ℕ). is_worn worn n) (omega arith) ∙ good b e)
+
+-- ---- the block that fails, as the code has it
+module _ (part marks : List ℕ) (long : length marks ≡ 64) where
+  pub before_failing : finished_by (failing_block part marks) ≡ finished_blocks part marks
+  before_failing =
+      ⊎_elim
+      (λ (t : ltb (finished_blocks part marks) 64 ≡ true). rw t refl)
+      (λ (t : ltb (finished_blocks part marks) 64 ≡ false).
+      rw t (let most = finished_most part marks in let past = ltb-false (finished_blocks part marks) 64 t in omega arith))
+      (decided (ltb (finished_blocks part marks) 64))
+
+  pub failing_some : is_some (failing_block part marks) ≡ some_fail part (flush_actions marks)
+  failing_some = both_ways (ltb (finished_blocks part marks) 64) ∙ ap (ltb (finished_blocks part marks)) (sym long) ∙ sym (some_unfinished part marks)
+    where
+      both_ways : (t : Bool) → is_some (cond t (Some (finished_blocks part marks)) None) ≡ t
+      both_ways true = refl
+      both_ways false = refl
+
+  pub left_as : left_marks (failing_block part marks) marks ≡ cond (is_some (failing_block part marks)) (marks_kept part marks) clean
+  left_as =
+      ⊎_elim
+      (λ (t : ltb (finished_blocks part marks) 64 ≡ true). rw (t, t) refl)
+      (λ (t : ltb (finished_blocks part marks) 64 ≡ false). rw t refl)
+      (decided (ltb (finished_blocks part marks) 64))
 
 -- the actions of the blocks before a place, and of those from there on
 pub split_flush : (n : ℕ) (marks : List ℕ) → n ≤ length marks

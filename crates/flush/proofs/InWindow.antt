@@ -20,8 +20,9 @@ use Rattle.soundness.proofs.Facts.{part_within, counts_right}
 use Rattle.flush.proofs.Lists.{flush_uncounted}
 use Rattle.flush.proofs.Failing.{until_all, some_none, until_finished}
 use Rattle.flush.proofs.Whole.{in_none}
-use Rattle.flush.specs.declared.window.Step.{Step}
-use Rattle.flush.specs.declared.window.Step.TheVariants.{Unsound, Suspended, Acted, Finished, Failed}
+use Rattle.std.specs.Prelude.{Result, Ok, Err}
+use Rattle.flush.specs.declared.window.StepError.{StepError}
+use Rattle.flush.specs.declared.window.StepError.TheVariants.{Unsound, Suspended, Failed}
 use Rattle.flush.specs.Worn.{until_failure, some_fail, finished_blocks, marks_kept}
 use Rattle.flush.specs.Window.{window_actions, window_part, perform_in, window_worn, done_actions, flush_fails, has_next, perform_next, stepped, advanced, Flushed, flush_whole}
 
@@ -50,28 +51,28 @@ first_done m finished e =
 
 -- ---- the five answers of a step, and the four of a whole flush
 module _ (m : Machine) (done : ℕ) where
-  abbrev pub Answers : Step → List ℕ → Type 0
+  abbrev pub Answers : Result Bool StepError → List ℕ → Type 0
   Answers answer after = stepped answer after ≡ advanced m done
 
-  pub unsound : sound (length m.flash) (length m.worn) (length m.memory) m.session ≡ false → Answers Unsound m.flash
+  pub unsound : sound (length m.flash) (length m.worn) (length m.memory) m.session ≡ false → Answers (Err Unsound) m.flash
   unfolding advanced
   unsound t = rw t
 
   module _ (t : sound (length m.flash) (length m.worn) (length m.memory) m.session ≡ true) where
-    pub suspended : m.session.suspended ≡ true → Answers Suspended m.flash
+    pub suspended : m.session.suspended ≡ true → Answers (Err Suspended) m.flash
     unfolding advanced
     suspended u = rw (t, u)
 
     module _ (u : m.session.suspended ≡ false) where
-      pub acted : has_next m done ≡ true → Answers Acted (perform_next m done)
+      pub acted : has_next m done ≡ true → Answers (Ok true) (perform_next m done)
       unfolding advanced
       acted v = rw (t, u, v)
 
-      pub finished : has_next m done ≡ false → flush_fails m ≡ false → Answers Finished (perform_next m done)
+      pub finished : has_next m done ≡ false → flush_fails m ≡ false → Answers (Ok false) (perform_next m done)
       unfolding advanced
       finished v f = rw (t, u, v, f)
 
-      pub failed : has_next m done ≡ false → flush_fails m ≡ true → Answers Failed (perform_next m done)
+      pub failed : has_next m done ≡ false → flush_fails m ≡ true → Answers (Err Failed) (perform_next m done)
       unfolding advanced
       failed v f = rw (t, u, v, f)
 

@@ -7,6 +7,3 @@ abbrev pub invariant-loop-i : goal.invariant-loop-i
 invariant-loop-i l =
     (l.i ≤ 64) × (l.actions ≤ 17 * l.i) × (l.actions ≡ length (flush_actions (take l.i l.marks)))
     × (l.part ≡ perform_all l.memory (flush_actions (take l.i l.marks)) l.initial.part)
-
-abbrev pub decreases-loop-i : goal.decreases-loop-i
-decreases-loop-i l = 64 - l.i

@@ -11,13 +11,13 @@ returns-then-left-count c =
     let l = c.loop-i in
     let mark = get_or c.args.marks l.i 0 in
     let few : l.left < count_of mark =
-    subst (λ (n : ℕ). l.left < n) (c.actions_of-count.ensures ∙ block_count 0 mark) c.if-left-count.true in
+    subst (λ (n : ℕ). l.left < n) (c.from-count.ensures ∙ c.actions_of.ensures ∙ block_count 0 mark) c.if-left-count.true in
     let found = nth_of_lem c.args.marks l.i (omega arith) l.left few in
     rw (l.invariant.1, sym c.first_action.ensures) at found
 
 pub loop-i-preserved : goal.loop-i-preserved
 loop-i-preserved c =
     let l = c.loop-i in
-    let count : c.actions_of-count.result ≡ count_of (get_or c.args.marks l.i 0) =
-    c.actions_of-count.ensures ∙ block_count 0 (get_or c.args.marks l.i 0) in
+    let count : c.from-count.result ≡ count_of (get_or c.args.marks l.i 0) =
+    c.from-count.ensures ∙ c.actions_of.ensures ∙ block_count 0 (get_or c.args.marks l.i 0) in
     (omega arith, omega (arith, count, l.invariant.1, count_more c.args.marks l.i (omega arith)))

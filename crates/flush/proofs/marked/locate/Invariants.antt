@@ -5,6 +5,3 @@ use Rattle.flush.proofs.marked.locate.Given as goal
 
 abbrev pub invariant-loop-i : goal.invariant-loop-i
 invariant-loop-i l = (l.i ≤ 64) × (l.left + length (flush_actions (take l.i l.marks)) ≡ l.done)
-
-abbrev pub decreases-loop-i : goal.decreases-loop-i
-decreases-loop-i l = 64 - l.i

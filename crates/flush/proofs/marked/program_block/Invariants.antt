@@ -5,6 +5,3 @@ use Rattle.flush.proofs.marked.program_block.Given as goal
 
 abbrev pub invariant-loop-page : goal.invariant-loop-page
 invariant-loop-page l = (l.page ≤ 16) × (l.part ≡ perform_all l.memory (pages_from l.block.0 0 l.page) l.initial.part)
-
-abbrev pub decreases-loop-page : goal.decreases-loop-page
-decreases-loop-page l = 16 - l.page
