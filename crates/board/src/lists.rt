@@ -1,5 +1,6 @@
 // A list of marks in one call, over a record.
 ghost use Rattle.std.specs.Prelude.{◌≡◌, Err, false};
+ghost use Rattle.session.specs.Machine.{set_up};
 ghost use Rattle.board.specs.Calls.{board, list_reply_of, marked_record, listed_record};
 
 use crate::convert::{is_regular, record_of};
@@ -20,7 +21,7 @@ pub fn hiomap_mark_list(
     ensures { record { held = held.new; answer = result }
         ≡ listed_record (board lpc timeout) flash worn memory list.now held.old }
 {
-    match mark_all(*held, list, lpc, timeout, flash, worn, memory) {
+    match mark_all(*held, list, Board { lpc, timeout }, flash, worn, memory) {
         Ok(marked) => {
             *held = marked;
             unnamed(1)
@@ -34,18 +35,16 @@ pub fn hiomap_mark_list(
 fn mark_all(
     held: Record,
     list: &[u16],
-    lpc: u16,
-    timeout: u16,
+    board: Board,
     flash: usize,
     worn: usize,
     memory: usize,
 ) -> Result<Record, ListError>
-    ensures { marked_record held result ≡ listed_record (board lpc timeout) flash worn memory list.now held }
+    ensures { marked_record held result ≡ listed_record (set_up board) flash worn memory list.now held }
 {
     if !is_regular(held) {
         return Err(ListError::Unsound);
     }
-    let board = Board { lpc, timeout };
     let session = mark_list(Session::from(held), list, board, flash, worn, memory)?;
     Ok(record_of(session, held.previous))
 }

@@ -1,5 +1,6 @@
 // A command over values: the mediator's, of the session that a record stands for.
 ghost use Rattle.std.specs.Prelude.{◌≡◌, cond};
+ghost use Rattle.session.specs.Machine.{set_up};
 ghost use Rattle.session.specs.Record.{with_version};
 ghost use Rattle.board.specs.Calls.{board, left, commanded};
 ghost use Rattle.board.specs.Record.{session_of, afterwards};
@@ -24,17 +25,15 @@ pub struct Served {
 pub fn serve(
     held: Record,
     registers: [u8; 16],
-    lpc: u16,
-    timeout: u16,
+    board: Board,
     flash: &mut [u8],
     worn: &[u8],
     memory: &mut [u8],
 ) -> Served
     ensures { left result.held result.registers result.actions flash.new memory.new
-        ≡ commanded (board lpc timeout) held registers flash.old worn.now memory.old }
+        ≡ commanded (set_up board) held registers flash.old worn.now memory.old }
 {
     let regular = is_regular(held);
-    let board = Board { lpc, timeout };
     let session = served_session(held, regular);
     let answer = command(session, registers, board, flash, worn, memory);
     Served {
@@ -83,7 +82,14 @@ pub fn hiomap_command(
     ensures { left held.new registers.new result flash.new memory.new
         ≡ commanded (board lpc timeout) held.old registers.old flash.old worn.now memory.old }
 {
-    let served = serve(*held, *registers, lpc, timeout, flash, worn, memory);
+    let served = serve(
+        *held,
+        *registers,
+        Board { lpc, timeout },
+        flash,
+        worn,
+        memory,
+    );
     *held = served.held;
     *registers = served.registers;
     served.actions

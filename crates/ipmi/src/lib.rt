@@ -22,6 +22,7 @@ pub struct Reply {
 }
 
 // Serves one message for the board's pair.
+#[tactic(auto, using(crate::proofs::Serving::served_command, crate::proofs::Serving::served_refused))]
 pub fn serve_message(
     session: Session,
     board: Board,
