@@ -97,7 +97,7 @@ own_back h = rw (number_back h.numbered h.previous) refl
 -- ---- a record that is regular, and one that is not
 
 -- what a command leaves of the mediator's outcome
-abbrev pub passed : Bool → Record → Outcome → Left
+abbrev passed : Bool → Record → Outcome → Left
 passed regular h o = left (afterwards regular h o.machine.session) o.registers o.actions o.machine.flash o.machine.memory
 
 by_record : (regular : Bool) (setup : Setup) (h : Record) (registers flash worn memory : List ℕ)
@@ -108,11 +108,14 @@ by_record false setup h registers flash worn memory =
     ap (passed false h) (unsound_refused setup registers (session_of h) flash worn memory)
     ∙ ap (λ (n : Record). left n (answered (session_of h) registers 4 [] 0).registers 0 flash memory) (own_back h)
 
-pub commanded_passed : (setup : Setup) (h : Record) (registers flash worn memory : List ℕ) (regular : Bool) (s : Session)
-    → regular ≡ is_regular h → s ≡ cond regular (session_of h) (with_version 255 (session_of h))
-    → passed regular h (mediate setup registers (lent s flash worn memory)) ≡ commanded setup h registers flash worn memory
+pub commanded_passed : (setup : Setup) (h : Record) (registers flash worn memory : List ℕ) (regular : Bool) (s : Session) (o : Outcome) (next : Record)
+    → regular ≡ is_regular h → s ≡ cond regular (session_of h) (with_version 255 (session_of h)) → o ≡ mediate setup registers (lent s flash worn memory)
+    → next ≡ afterwards regular h o.machine.session
+    → left next o.registers o.actions o.machine.flash o.machine.memory ≡ commanded setup h registers flash worn memory
 unfolding commanded
-commanded_passed setup h registers flash worn memory regular s r e =
-    ap (λ (t : Session). passed regular h (mediate setup registers (lent t flash worn memory))) e
+commanded_passed setup h registers flash worn memory regular s o next r e out kept_as =
+    ap (λ (n : Record). left n o.registers o.actions o.machine.flash o.machine.memory) kept_as
+    ∙ ap (passed regular h) out
+    ∙ ap (λ (t : Session). passed regular h (mediate setup registers (lent t flash worn memory))) e
     ∙ by_record regular setup h registers flash worn memory
     ∙ ap (λ (b : Bool). cond b (kept h.previous (mediate setup registers (lent (session_of h) flash worn memory))) (system_error h registers flash memory)) r

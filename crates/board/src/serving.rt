@@ -7,7 +7,7 @@ ghost use Rattle.board.specs.Record.{session_of, afterwards};
 
 use crate::Record;
 use crate::convert::{is_regular, record_of};
-use mailbox::command;
+use mailbox::{Answer, command};
 use session::{Board, Session};
 
 // A version that no later one reaches, so that it is never sound.
@@ -22,6 +22,7 @@ pub struct Served {
 }
 
 // Serves one mailbox command. A record with a number that stands for nothing is refused, and stays.
+#[tactic(auto, using(crate::proofs::Answers::commanded_passed))]
 pub fn serve(
     held: Record,
     registers: [u8; 16],
@@ -35,11 +36,15 @@ pub fn serve(
 {
     let regular = is_regular(held);
     let session = served_session(held, regular);
-    let answer = command(session, registers, board, flash, worn, memory);
+    let Answer {
+        session,
+        registers,
+        actions,
+    } = command(session, registers, board, flash, worn, memory);
     Served {
-        held: kept_record(held, regular, answer.session),
-        registers: answer.registers,
-        actions: answer.actions,
+        held: kept_record(held, regular, session),
+        registers,
+        actions,
     }
 }
 
@@ -82,7 +87,11 @@ pub fn hiomap_command(
     ensures { left held.new registers.new result flash.new memory.new
         ≡ commanded (board lpc timeout) held.old registers.old flash.old worn.now memory.old }
 {
-    let served = serve(
+    let Served {
+        held: after,
+        registers: replied,
+        actions,
+    } = serve(
         *held,
         *registers,
         Board { lpc, timeout },
@@ -90,7 +99,7 @@ pub fn hiomap_command(
         worn,
         memory,
     );
-    *held = served.held;
-    *registers = served.registers;
-    served.actions
+    *held = after;
+    *registers = replied;
+    actions
 }

@@ -58,11 +58,12 @@ fn serve_command(
 fn with_response(held: Record, response: Response, actions: u32) -> ServedMessage
     ensures { result ≡ record { held = held; reply = reply_of response actions } }
 {
+    let Response { bytes, length } = response;
     ServedMessage {
         held,
         reply: MessageReply {
-            response: response.bytes,
-            length: response.length,
+            response: bytes,
+            length,
             actions,
         },
     }
