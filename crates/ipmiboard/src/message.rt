@@ -17,6 +17,7 @@ pub struct ServedMessage {
 }
 
 // Serves one message for the board's pair. What is refused leaves the record as it is.
+// A twin of ipmi's: a trait for both, with what a command leaves as a ghost member and an impl in each crate, is longer than the two.
 #[tactic(auto, using(crate::proofs::Messaging::messaged_command, crate::proofs::Messaging::messaged_refused))]
 pub(crate) fn serve_message(
     held: Record,

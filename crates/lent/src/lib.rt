@@ -18,6 +18,7 @@ pub struct Reply {
 }
 
 // Serves one mailbox command over a lent session.
+// The buffers are no struct: each function would also have to promise that its fields keep their ghost names.
 pub fn serve(
     session: &mut Session,
     registers: [u8; 16],
