@@ -5,13 +5,12 @@ use mathlib.Core.List.{List, []}
 use Prim.Native.Nat.{ℕ, zero, suc, ◌≤◌}
 use native.Mathlib.Omega.{arith}
 use borrow.Author.Tests.{leb-true}
+use Rattle.std.specs.Prelude.{Option, None, Some, Err}
 use Rattle.units.proofs.Cases.{both, chosen}
 use lib.ListN.{length}
 use Rattle.session.specs.declared.Session.{Session}
 use Rattle.session.specs.declared.Window.{Window}
 use Rattle.session.specs.declared.Window.TheVariants.{Closed, Read, Write}
-use Rattle.session.specs.declared.Previous.{Previous}
-use Rattle.session.specs.declared.Previous.TheVariants.{Absent, Number}
 use Rattle.session.specs.Machine.{Setup, lent}
 use Rattle.session.specs.Record.{with_version}
 use Rattle.soundness.specs.Soundness.{sizes_sound, session_sound, sound, sound_at}
@@ -31,7 +30,7 @@ unfolding sound_at sound session_sound
 unsound setup flash worn memory s = rw (and-false (sizes_sound flash worn memory)) refl
 
 system : (setup : Setup) (registers : List ℕ) (s : Session) (flash worn memory : List ℕ)
-    → reason_in setup registers (lent (with_version 255 s) flash worn memory) ≡ System
+    → reason_in setup registers (lent (with_version 255 s) flash worn memory) ≡ Err System
 unfolding reason_for
 system setup registers s flash worn memory = rw (unsound setup (length flash) (length worn) (length memory) s) refl
 
@@ -39,7 +38,7 @@ pub unsound_refused : (setup : Setup) (registers : List ℕ) (s : Session) (flas
     → mediate setup registers (lent (with_version 255 s) flash worn memory) ≡ refused 4 registers (lent (with_version 255 s) flash worn memory)
 unfolding answer_to
 unsound_refused setup registers s flash worn memory =
-    mediate_as setup registers (lent (with_version 255 s) flash worn memory) System (system setup registers s flash worn memory)
+    mediate_as setup registers (lent (with_version 255 s) flash worn memory) (Err System) (system setup registers s flash worn memory)
 
 -- ---- the way there and back loses nothing
 
@@ -48,9 +47,9 @@ windows_back Closed = refl
 windows_back Read = refl
 windows_back Write = refl
 
-previous_back : (spare : ℕ) (p : Previous) → previous_of (yes_no (is_numbered p)) (number_or spare p) ≡ p
-previous_back spare Absent = refl
-previous_back spare (Number n) = refl
+previous_back : (spare : ℕ) (p : Option ℕ) → previous_of (yes_no (is_numbered p)) (number_or spare p) ≡ p
+previous_back spare None = refl
+previous_back spare (Some n) = refl
 
 pub yes_back : (b : Bool) → is_yes (yes_no b) ≡ b
 yes_back true = refl
@@ -77,7 +76,7 @@ numbered_back (suc zero) k e = refl
 numbered_back (suc (suc n)) k e = absurd (omega arith)
 
 pub number_back : (n k : ℕ) → number_or k (previous_of n k) ≡ k
-number_back n k = chosen (λ p. number_or k p ≡ k) (is_yes n) (Number k) Absent (λ _. refl) (λ _. refl)
+number_back n k = chosen (λ p. number_or k p ≡ k) (is_yes n) (Some k) None (λ _. refl) (λ _. refl)
 
 -- the record of a record's session is that record, where the record is regular
 record_back : (h : Record) → is_regular h ≡ true → record_of h.previous (session_of h) ≡ h
@@ -98,7 +97,7 @@ own_back h = rw (number_back h.numbered h.previous) refl
 -- ---- a record that is regular, and one that is not
 
 -- what a command leaves of the mediator's outcome
-abbrev pub passed : Bool → Record → Outcome → Left
+abbrev passed : Bool → Record → Outcome → Left
 passed regular h o = left (afterwards regular h o.machine.session) o.registers o.actions o.machine.flash o.machine.memory
 
 by_record : (regular : Bool) (setup : Setup) (h : Record) (registers flash worn memory : List ℕ)
@@ -109,11 +108,14 @@ by_record false setup h registers flash worn memory =
     ap (passed false h) (unsound_refused setup registers (session_of h) flash worn memory)
     ∙ ap (λ (n : Record). left n (answered (session_of h) registers 4 [] 0).registers 0 flash memory) (own_back h)
 
-pub commanded_passed : (setup : Setup) (h : Record) (registers flash worn memory : List ℕ) (regular : Bool) (s : Session)
-    → regular ≡ is_regular h → s ≡ cond regular (session_of h) (with_version 255 (session_of h))
-    → passed regular h (mediate setup registers (lent s flash worn memory)) ≡ commanded setup h registers flash worn memory
+pub commanded_passed : (setup : Setup) (h : Record) (registers flash worn memory : List ℕ) (regular : Bool) (s : Session) (o : Outcome) (next : Record)
+    → regular ≡ is_regular h → s ≡ cond regular (session_of h) (with_version 255 (session_of h)) → o ≡ mediate setup registers (lent s flash worn memory)
+    → next ≡ afterwards regular h o.machine.session
+    → left next o.registers o.actions o.machine.flash o.machine.memory ≡ commanded setup h registers flash worn memory
 unfolding commanded
-commanded_passed setup h registers flash worn memory regular s r e =
-    ap (λ (t : Session). passed regular h (mediate setup registers (lent t flash worn memory))) e
+commanded_passed setup h registers flash worn memory regular s o next r e out kept_as =
+    ap (λ (n : Record). left n o.registers o.actions o.machine.flash o.machine.memory) kept_as
+    ∙ ap (passed regular h) out
+    ∙ ap (λ (t : Session). passed regular h (mediate setup registers (lent t flash worn memory))) e
     ∙ by_record regular setup h registers flash worn memory
     ∙ ap (λ (b : Bool). cond b (kept h.previous (mediate setup registers (lent (session_of h) flash worn memory))) (system_error h registers flash memory)) r

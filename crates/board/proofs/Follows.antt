@@ -2,8 +2,8 @@
 use mathlib.Core.Path.{◌≡◌, refl, sym, ap, ◌∙◌}
 use mathlib.Core.Bool.{Bool, true, false, not}
 use Prim.Native.Nat.{ℕ}
+use Rattle.std.specs.Prelude.{Option}
 use Rattle.session.specs.declared.Session.{Session}
-use Rattle.session.specs.declared.Previous.{Previous}
 use Rattle.session.specs.Events.{control_lost, window_reset, set_bits, clear_bits}
 use Rattle.session.specs.Machine.{lent}
 use Rattle.session.specs.Record.{with_access, drop_window}
@@ -34,7 +34,7 @@ answered window h true t p w =
   where
     number : previous_of h.numbered (number_or h.previous t.previous) ≡ t.previous
     number =
-        ap (λ (q : Previous). previous_of h.numbered (number_or h.previous q)) p
+        ap (λ (q : Option ℕ). previous_of h.numbered (number_or h.previous q)) p
         ∙ ap (previous_of h.numbered) (number_back h.numbered h.previous)
         ∙ sym p
 answered window h false t p w = refl

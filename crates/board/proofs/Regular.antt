@@ -7,8 +7,7 @@ use Rattle.units.proofs.Cases.{both, chosen}
 use Rattle.session.specs.declared.Session.{Session}
 use Rattle.session.specs.declared.Window.{Window}
 use Rattle.session.specs.declared.Window.TheVariants.{Closed, Read, Write}
-use Rattle.session.specs.declared.suspension.Suspension.{Suspension}
-use Rattle.session.specs.Suspension.{suspended, resumed, resumed_changed}
+use Rattle.session.specs.Suspension.{Suspension, suspended, resumed, resumed_changed}
 use Rattle.session.specs.Machine.{lent}
 use Rattle.marklist.specs.MarkList.{listed}
 use Rattle.mailbox.specs.Mediator.{mediate}

@@ -1,22 +1,18 @@
 -- What each call of the board's loop leaves, over the record that C keeps: the definitions of the crates below, of the session that the
 -- record stands for. A record with a number that stands for nothing is not sound.
-use Rattle.std.specs.Prelude.{◌≡◌, ℕ, ◌+◌, ◌*◌, true, false, cond, List, [], length, replicate}
+use Rattle.std.specs.Prelude.{◌≡◌, ℕ, ◌+◌, ◌*◌, true, false, cond, Option, None, Some, Result, Ok, Err, List, [], length, replicate}
 use Rattle.session.specs.Marks.{marks_of}
 use Rattle.session.specs.Machine.{Setup, set_up, lent}
 use Rattle.session.specs.declared.Session.{Session}
-use Rattle.session.specs.declared.suspension.Suspension.{Suspension}
-use Rattle.session.specs.Suspension.{suspended, resumed, resumed_changed}
+use Rattle.session.specs.Suspension.{Suspension, suspended, resumed, resumed_changed}
 use Rattle.soundness.specs.declared.pending_work.PendingWork.{PendingWork}
-use Rattle.soundness.specs.declared.pending_work.PendingWork.TheVariants.{Unsound, Marked}
 use Rattle.soundness.specs.Pending.{pending_in}
 use Rattle.flush.specs.Window.{Advanced, advanced}
-use Rattle.marklist.specs.declared.ListAnswer.{ListAnswer}
-use Rattle.marklist.specs.declared.ListAnswer.TheVariants.{Unsound as UnsoundList}
-use Rattle.marklist.specs.declared.Listed.{Listed}
-use Rattle.marklist.specs.MarkList.{list_code, names_pair, place_named, listed}
+use Rattle.marklist.specs.declared.ListError.{ListError}
+use Rattle.marklist.specs.declared.ListError.TheVariants.{Unsound}
+use Rattle.marklist.specs.MarkList.{ListAnswer, Marked, Listed, list_code, names_pair, place_named, listed}
 use Rattle.mailbox.specs.Commands.{Outcome, answered}
 use Rattle.mailbox.specs.Mediator.{mediate}
-use Rattle.board.specs.declared.lists.ServedList.{ServedList}
 use Rattle.board.specs.declared.ListReply.{ListReply}
 use Rattle.board.specs.declared.Record.{Record}
 use Rattle.board.specs.declared.Stepped.{Stepped}
@@ -88,6 +84,16 @@ stepped_record h worn memory done flash =
 abbrev pub list_reply_of : ListAnswer → ListReply
 list_reply_of answer = record { code = list_code answer; named = names_pair answer; place = place_named answer }
 
+-- the record that a list leaves, and what it answers
+pub record ServedList : Type 0 where
+  pub held : Record
+  pub answer : ListReply
+
+-- as the code has them: a list that is refused leaves the record that it was given
+abbrev pub marked_record : Record → Result Record ListError → ServedList
+marked_record before (Ok after) = record { held = after; answer = list_reply_of Marked }
+marked_record before (Err refused) = record { held = before; answer = list_reply_of (Err refused) }
+
 -- what it leaves and answers, its session as a record
 abbrev pub kept_list : ℕ → Listed → ServedList
 kept_list spare l = record { held = record_of spare l.session; answer = list_reply_of l.answer }
@@ -98,12 +104,12 @@ unfoldable pub listed_record : Setup → ℕ → ℕ → ℕ → List ℕ → Re
 listed_record setup flash worn memory list h =
     cond (is_regular h)
     (kept_list h.previous (listed setup flash worn memory list (session_of h)))
-    (record { held = h; answer = list_reply_of UnsoundList })
+    (record { held = h; answer = list_reply_of (Err Unsound) })
 
 -- "unsound", and else the two numbers, as C has them: with "unsound" both are 0 (house)
-abbrev pub work_of : PendingWork → Work
-work_of Unsound = record { unsound = true; blocks = 0; actions = 0 }
-work_of (Marked blocks actions) = record { unsound = false; blocks = blocks; actions = actions }
+abbrev pub work_of : Option PendingWork → Work
+work_of None = record { unsound = true; blocks = 0; actions = 0 }
+work_of (Some work) = record { unsound = false; blocks = work.blocks; actions = work.actions }
 
 -- how much is pending, whatever the other numbers of the record (02, Ticket 2), and as if no block were worn (02, Ticket 8)
 abbrev pub pending_record : Record → Work

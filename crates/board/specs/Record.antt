@@ -1,10 +1,8 @@
 -- The record that C keeps, and the session that it stands for: document 01, "Session".
-use Rattle.std.specs.Prelude.{ℕ, Bool, true, false, cond, not, ◌&&◌, eqb, leb}
+use Rattle.std.specs.Prelude.{ℕ, Bool, true, false, cond, not, ◌&&◌, Option, None, Some, eqb, leb}
 use Rattle.session.specs.declared.Session.{Session}
 use Rattle.session.specs.declared.Window.{Window}
 use Rattle.session.specs.declared.Window.TheVariants.{Closed, Read, Write}
-use Rattle.session.specs.declared.Previous.{Previous}
-use Rattle.session.specs.declared.Previous.TheVariants.{Absent, Number}
 use Rattle.board.specs.declared.Record.{Record}
 
 -- "the window (none, read or write, ..": the number of each, and the window of a number
@@ -24,17 +22,17 @@ abbrev pub is_yes : ℕ → Bool
 is_yes n = not (eqb n 0)
 
 -- "the previous sequence number, if any"
-abbrev pub previous_of : ℕ → ℕ → Previous
-previous_of numbered n = cond (is_yes numbered) (Number n) Absent
+abbrev pub previous_of : ℕ → ℕ → Option ℕ
+previous_of numbered n = cond (is_yes numbered) (Some n) None
 
 -- whether there is one, and the byte that stands for it: where there is none, a spare one
-abbrev pub is_numbered : Previous → Bool
-is_numbered Absent = false
-is_numbered (Number n) = true
+abbrev pub is_numbered : Option ℕ → Bool
+is_numbered None = false
+is_numbered (Some n) = true
 
-abbrev pub number_or : ℕ → Previous → ℕ
-number_or spare Absent = spare
-number_or spare (Number n) = n
+abbrev pub number_or : ℕ → Option ℕ → ℕ
+number_or spare None = spare
+number_or spare (Some n) = n
 
 -- each number of the record stands for something, yes or no or a window: a record of which one does not is not sound (house)
 abbrev pub is_regular : Record → Bool

@@ -1,9 +1,9 @@
 // A record as a session, and a session as a record.
 ghost use Rattle.std.specs.Prelude.{◌≡◌};
-ghost use Rattle.board.specs.Record.{window_number, window_of, yes_no, previous_of, is_numbered, number_or, is_regular, session_of, record_of};
+ghost use Rattle.board.specs.Record.{window_number, window_of, is_regular, session_of, record_of};
 
 use crate::Record;
-use session::{Counts, Previous, Session, Window};
+use session::{Counts, Session, Window};
 
 // The largest number of a window, and of yes or no.
 const LAST_WINDOW: u8 = 2;
@@ -14,33 +14,30 @@ const YES: u8 = 1;
 pub(crate) fn is_regular(held: Record) -> bool
     ensures { result ≡ is_regular held }
 {
-    if YES < held.numbered {
-        return false;
-    }
-    if YES < held.suspended {
-        return false;
-    }
-    held.window <= LAST_WINDOW
+    held.numbered <= YES && held.suspended <= YES && held.window <= LAST_WINDOW
 }
 
 // The session that a record stands for.
-pub(crate) fn session_of(held: Record) -> Session
-    ensures { result ≡ session_of held }
-{
-    let marks = held.marks;
-    Session {
-        version: held.version,
-        previous: previous_of(held.numbered, held.previous),
-        events: held.events,
-        suspended: held.suspended != 0,
-        window: window_of(held.window),
-        first: held.first,
-        size: held.size,
-        counts: Counts {
-            dirty: held.dirty,
-            erased: held.erased,
-        },
-        marks,
+impl From<Record> for Session {
+    ghost from_gives = { λ held session. session ≡ session_of held };
+
+    fn from(held: Record) -> Session {
+        // through a variable: straight, the copy of an array out of C's record gets no proof
+        let marks = held.marks;
+        Session {
+            version: held.version,
+            previous: (held.numbered != 0).then_some(held.previous),
+            events: held.events,
+            suspended: held.suspended != 0,
+            window: window_of(held.window),
+            first: held.first,
+            size: held.size,
+            counts: Counts {
+                dirty: held.dirty,
+                erased: held.erased,
+            },
+            marks,
+        }
     }
 }
 
@@ -48,25 +45,22 @@ pub(crate) fn session_of(held: Record) -> Session
 pub(crate) fn record_of(session: Session, spare: u8) -> Record
     ensures { result ≡ record_of spare session }
 {
-    let previous = session.previous;
-    let window = session.window;
-    let counts = session.counts;
-    let marks = session.marks;
     Record {
         version: session.version,
-        numbered: yes_no(is_numbered(previous)),
-        previous: number_or(spare, previous),
+        numbered: u8::from(session.previous.is_some()),
+        previous: session.previous.unwrap_or(spare),
         events: session.events,
-        suspended: yes_no(session.suspended),
-        window: window_number(window),
+        suspended: u8::from(session.suspended),
+        window: window_number(session.window),
         first: session.first,
         size: session.size,
-        dirty: counts.dirty,
-        erased: counts.erased,
-        marks,
+        dirty: session.counts.dirty,
+        erased: session.counts.erased,
+        marks: session.marks,
     }
 }
 
+// These two are no From: u8 and Window are other crates' types, and the numbers are C's (include/hiomap.h).
 fn window_of(number: u8) -> Window
     ensures { result ≡ window_of number }
 {
@@ -84,39 +78,5 @@ fn window_number(window: Window) -> u8
         Window::Closed => 0,
         Window::Read => 1,
         Window::Write => 2,
-    }
-}
-
-fn yes_no(answer: bool) -> u8
-    ensures { result ≡ yes_no answer }
-{
-    if answer { YES } else { 0 }
-}
-
-fn previous_of(numbered: u8, number: u8) -> Previous
-    ensures { result ≡ previous_of numbered number }
-{
-    if numbered == 0 {
-        Previous::Absent
-    } else {
-        Previous::Number(number)
-    }
-}
-
-fn is_numbered(previous: Previous) -> bool
-    ensures { result ≡ is_numbered previous }
-{
-    match previous {
-        Previous::Absent => false,
-        Previous::Number(_) => true,
-    }
-}
-
-fn number_or(spare: u8, previous: Previous) -> u8
-    ensures { result ≡ number_or spare previous }
-{
-    match previous {
-        Previous::Absent => spare,
-        Previous::Number(number) => number,
     }
 }

@@ -21,6 +21,8 @@ pub use pending::hiomap_pending;
 pub use serving::{Served, hiomap_command, serve};
 use session::new_session;
 
+// The types below are C's (include/hiomap.h): there a number stands for a kind, and a flag has the value beside it.
+
 // A session as C keeps it.
 #[repr(C)]
 #[derive(Clone, Copy)]

@@ -1,58 +1,65 @@
 // A list of marks in one call, over a record.
-ghost use Rattle.std.specs.Prelude.{◌≡◌, false};
-ghost use Rattle.board.specs.Calls.{board, list_reply_of, listed_record};
+ghost use Rattle.std.specs.Prelude.{◌≡◌, Err, false};
+ghost use Rattle.session.specs.Machine.{set_up};
+ghost use Rattle.board.specs.Calls.{board, list_reply_of, marked_record, listed_record};
 
-use crate::convert::{is_regular, record_of, session_of};
+use crate::convert::{is_regular, record_of};
 use crate::{ListReply, Record};
-use marklist::{ListAnswer, mark_list};
-use session::Board;
+use marklist::{ListError, mark_list};
+use session::{Board, Session};
 
-// What a list gives back.
-#[derive(Clone, Copy)]
-pub struct ServedList {
-    pub held: Record,
-    pub answer: ListReply,
-}
-
-// Marks all pairs of the list dirty, or changes nothing. A record with a number that stands for nothing is refused.
-pub(crate) fn mark_all(
-    held: Record,
+// Marks a list of pairs in a lent record; the lengths of the flash, its map and the window memory are in bytes.
+pub fn hiomap_mark_list(
+    held: &mut Record,
     list: &[u16],
     lpc: u16,
     timeout: u16,
     flash: usize,
     worn: usize,
     memory: usize,
-) -> ServedList
-    ensures { result ≡ listed_record (board lpc timeout) flash worn memory list.now held }
+) -> ListReply
+    ensures { record { held = held.new; answer = result }
+        ≡ listed_record (board lpc timeout) flash worn memory list.now held.old }
 {
-    if !is_regular(held) {
-        return ServedList {
-            held,
-            answer: unnamed(4),
-        };
-    }
-    let board = Board { lpc, timeout };
-    let listed = mark_list(session_of(held), list, board, flash, worn, memory);
-    let answer = listed.answer;
-    ServedList {
-        held: record_of(listed.session, held.previous),
-        answer: list_reply_of(answer),
+    match mark_all(*held, list, Board { lpc, timeout }, flash, worn, memory) {
+        Ok(marked) => {
+            *held = marked;
+            unnamed(1)
+        }
+        Err(refused) => refusal_of(refused),
     }
 }
 
-// An answer as a code, and the place that it names.
-fn list_reply_of(answer: ListAnswer) -> ListReply
-    ensures { result ≡ list_reply_of answer }
+// Marks all pairs of the list dirty. A record with a number that stands for nothing is refused.
+#[tactic(auto, using(crate::proofs::Listed::list_irregular, crate::proofs::Listed::list_marked, crate::proofs::Listed::list_refused))]
+fn mark_all(
+    held: Record,
+    list: &[u16],
+    board: Board,
+    flash: usize,
+    worn: usize,
+    memory: usize,
+) -> Result<Record, ListError>
+    ensures { marked_record held result ≡ listed_record (set_up board) flash worn memory list.now held }
 {
-    match answer {
-        ListAnswer::Marked => unnamed(1),
-        ListAnswer::Unsound => unnamed(4),
-        ListAnswer::OtherVersion => unnamed(2),
-        ListAnswer::Suspended => unnamed(6),
-        ListAnswer::Windowless => unnamed(7),
-        ListAnswer::Malformed => unnamed(2),
-        ListAnswer::Outside(place) => ListReply {
+    if !is_regular(held) {
+        return Err(ListError::Unsound);
+    }
+    let session = mark_list(Session::from(held), list, board, flash, worn, memory)?;
+    Ok(record_of(session, held.previous))
+}
+
+// A refusal as its code, and the place that it names.
+fn refusal_of(refused: ListError) -> ListReply
+    ensures { result ≡ list_reply_of (Err refused) }
+{
+    match refused {
+        ListError::Unsound => unnamed(4),
+        ListError::OtherVersion => unnamed(2),
+        ListError::Suspended => unnamed(6),
+        ListError::Windowless => unnamed(7),
+        ListError::Malformed => unnamed(2),
+        ListError::Outside(place) => ListReply {
             code: 2,
             named: true,
             place,
@@ -69,22 +76,4 @@ fn unnamed(code: u8) -> ListReply
         named: false,
         place: 0,
     }
-}
-
-// Marks a list of pairs in a lent record; the lengths of the flash, its map and the window memory are in bytes.
-pub fn hiomap_mark_list(
-    held: &mut Record,
-    list: &[u16],
-    lpc: u16,
-    timeout: u16,
-    flash: usize,
-    worn: usize,
-    memory: usize,
-) -> ListReply
-    ensures { record { held = held.new; answer = result }
-        ≡ listed_record (board lpc timeout) flash worn memory list.now held.old }
-{
-    let marking = mark_all(*held, list, lpc, timeout, flash, worn, memory);
-    *held = marking.held;
-    marking.answer
 }

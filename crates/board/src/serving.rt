@@ -1,12 +1,13 @@
 // A command over values: the mediator's, of the session that a record stands for.
 ghost use Rattle.std.specs.Prelude.{◌≡◌, cond};
+ghost use Rattle.session.specs.Machine.{set_up};
 ghost use Rattle.session.specs.Record.{with_version};
 ghost use Rattle.board.specs.Calls.{board, left, commanded};
 ghost use Rattle.board.specs.Record.{session_of, afterwards};
 
 use crate::Record;
-use crate::convert::{is_regular, record_of, session_of};
-use mailbox::command;
+use crate::convert::{is_regular, record_of};
+use mailbox::{Answer, command};
 use session::{Board, Session};
 
 // A version that no later one reaches, so that it is never sound.
@@ -21,27 +22,29 @@ pub struct Served {
 }
 
 // Serves one mailbox command. A record with a number that stands for nothing is refused, and stays.
+#[tactic(auto, using(crate::proofs::Answers::commanded_passed))]
 pub fn serve(
     held: Record,
     registers: [u8; 16],
-    lpc: u16,
-    timeout: u16,
+    board: Board,
     flash: &mut [u8],
     worn: &[u8],
     memory: &mut [u8],
 ) -> Served
     ensures { left result.held result.registers result.actions flash.new memory.new
-        ≡ commanded (board lpc timeout) held registers flash.old worn.now memory.old }
+        ≡ commanded (set_up board) held registers flash.old worn.now memory.old }
 {
     let regular = is_regular(held);
-    let board = Board { lpc, timeout };
     let session = served_session(held, regular);
-    let answer = command(session, registers, board, flash, worn, memory);
-    let replied = answer.registers;
+    let Answer {
+        session,
+        registers,
+        actions,
+    } = command(session, registers, board, flash, worn, memory);
     Served {
-        held: kept_record(held, regular, answer.session),
-        registers: replied,
-        actions: answer.actions,
+        held: kept_record(held, regular, session),
+        registers,
+        actions,
     }
 }
 
@@ -50,7 +53,7 @@ pub fn serve(
 fn served_session(held: Record, regular: bool) -> Session
     ensures { result ≡ cond regular (session_of held) (with_version 255 (session_of held)) }
 {
-    let mut session = session_of(held);
+    let mut session = Session::from(held);
     if !regular {
         session.version = UNSOUND_VERSION;
     }
@@ -84,9 +87,19 @@ pub fn hiomap_command(
     ensures { left held.new registers.new result flash.new memory.new
         ≡ commanded (board lpc timeout) held.old registers.old flash.old worn.now memory.old }
 {
-    let answer = serve(*held, *registers, lpc, timeout, flash, worn, memory);
-    let replied = answer.registers;
-    *held = answer.held;
+    let Served {
+        held: after,
+        registers: replied,
+        actions,
+    } = serve(
+        *held,
+        *registers,
+        Board { lpc, timeout },
+        flash,
+        worn,
+        memory,
+    );
+    *held = after;
     *registers = replied;
-    answer.actions
+    actions
 }

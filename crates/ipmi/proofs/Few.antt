@@ -1,24 +1,22 @@
 -- A response has 16 bytes at most: the claim stands in specs/Served.antt.
-use mathlib.Core.Path.{◌≡◌, refl, subst}
+use mathlib.Core.Path.{◌≡◌, refl}
 use mathlib.Core.Bool.{true}
 use mathlib.Core.List.{List, ◌∷◌, ◌++◌}
-use mathlib.Core.Option.{Option}
 use Prim.Native.Nat.{ℕ, ◌≤◌}
 use native.Mathlib.Omega.{arith}
 use lib.Dec.{eqb, leb}
 use lib.ListN.{length}
 use borrow.Author.Tests.{leb-true}
+use Rattle.std.specs.Prelude.{Option, Err}
 use Rattle.units.proofs.Cases.{chosen}
 use Rattle.registers.specs.Registers.{command_of, sequence_of}
-use Rattle.messages.specs.declared.Taken.{Taken}
-use Rattle.messages.specs.declared.Taken.TheVariants.{Short, Foreign, Malformed, Command}
+use Rattle.messages.specs.declared.Refusal.TheVariants.{Short, Foreign, Malformed}
 use Rattle.messages.specs.Lengths.{told}
-use Rattle.messages.specs.Messages.{taken_as, registers_of, headed, completion_of, values_of, status_of, response_of}
+use Rattle.messages.specs.Messages.{Taken, Command, taken_as, registers_of, headed, completion_of, values_of, status_of, response_of}
 use Rattle.messages.specs.Parameters.{Row, table, row_of}
 use Rattle.messages.proofs.Rows.{◌&◌, each_row, packed_long}
 use Rattle.mailbox.specs.Mediator.{mediate}
-use Rattle.ipmi.specs.Served.{Served, served_as, FewBytes}
-use Rattle.ipmi.proofs.Serving.{served_as_lem}
+use Rattle.ipmi.specs.Served.{served_as, served, FewBytes}
 use Rattle.ipmi.proofs.Told.{mediate_answers, answers_long}
 
 -- the parameters of a row have 11 at most
@@ -42,15 +40,13 @@ few_responded version message registers l =
 
 -- whatever becomes of the message
 pub few_bytes : FewBytes
-few_bytes setup pair message m =
-    let version = m.session.version in
-    subst (λ (s : Served). length s.response ≤ 16) (served_as_lem setup pair message m (taken_as pair version message) refl)
-    (by (taken_as pair version message))
+unfolding served
+few_bytes setup pair message m = by (taken_as pair m.session.version message)
   where
     by : (t : Taken) → length (served_as t setup message m).response ≤ 16
-    by Short = omega arith
-    by Foreign = omega arith
-    by Malformed = omega arith
+    by (Err Short) = omega arith
+    by (Err Foreign) = omega arith
+    by (Err Malformed) = omega arith
     by Command =
         let registers = registers_of m.session.version message in
         let o = mediate setup registers m in

@@ -15,9 +15,10 @@ use Rattle.session.specs.Machine.{Setup, Machine, holding}
 use Rattle.flush.specs.Window.{flush_whole}
 use Rattle.registers.specs.Registers.{command_of, sequence_of, argument, number, bytes_of, padded, reply}
 use Rattle.registers.proofs.Fields.{elements}
+use Rattle.std.specs.Prelude.{Err}
 use Rattle.refusals.specs.declared.Reason.{Reason}
-use Rattle.refusals.specs.declared.Reason.TheVariants.{Accepted, System, Repeated, Unknown, Suspended, Windowless, Argument}
-use Rattle.refusals.specs.Refusals.{code_for}
+use Rattle.refusals.specs.declared.Reason.TheVariants.{System, Repeated, Unknown, Suspended, Windowless, Argument}
+use Rattle.refusals.specs.Refusals.{Checked, Accepted, code_for}
 use Rattle.messages.proofs.Cells.{filled}
 use Rattle.mailbox.specs.Commands.{Outcome, outcome, answered, numbered_in, refused, info_arguments, create_arguments, size_for, hint, closing, closing_first, opened, created, stopped, closed, flushing, flushed_through, flushed}
 use Rattle.mailbox.specs.Table.{Command}
@@ -110,14 +111,14 @@ module _ (setup : Setup) (registers : List ℕ) (m : Machine) where
   unfolding mediate obeyed answer_to
   mediate_answers = by (reason_in setup registers m)
     where
-      late : (r : Reason) → Answers registers (refused (code_for version r) registers (numbered_in registers m))
-      late r = answers_with _ registers (code_for version r) [] _ _ _ _
+      late : (r : Reason) → Answers registers (refused (code_for version (Err r)) registers (numbered_in registers m))
+      late r = answers_with _ registers (code_for version (Err r)) [] _ _ _ _
 
-      by : (r : Reason) → Answers registers (answer_to r (command_in registers) setup registers m)
+      by : (r : Checked) → Answers registers (answer_to r (command_in registers) setup registers m)
       by Accepted = served_answers (command_of registers)
-      by System = answers_with _ registers 4 [] _ _ _ _
-      by Repeated = late Repeated
-      by Unknown = late Unknown
-      by Suspended = late Suspended
-      by Windowless = late Windowless
-      by Argument = broken_answers (command_of registers)
+      by (Err System) = answers_with _ registers 4 [] _ _ _ _
+      by (Err Repeated) = late Repeated
+      by (Err Unknown) = late Unknown
+      by (Err Suspended) = late Suspended
+      by (Err Windowless) = late Windowless
+      by (Err Argument) = broken_answers (command_of registers)

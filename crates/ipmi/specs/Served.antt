@@ -1,10 +1,9 @@
 -- What a message leaves, for every message, session and buffer: document 02, Ticket 6.
-use Rattle.std.specs.Prelude.{ℕ, ◌≤◌, List, length}
+use Rattle.std.specs.Prelude.{ℕ, ◌≤◌, Err, List, length}
 use Rattle.session.specs.Machine.{Setup, Machine}
 use Rattle.messages.specs.declared.Pair.{Pair}
-use Rattle.messages.specs.declared.Taken.{Taken}
-use Rattle.messages.specs.declared.Taken.TheVariants.{Short, Foreign, Malformed, Command}
-use Rattle.messages.specs.Messages.{taken_as, registers_of, refusal, response_of}
+use Rattle.messages.specs.declared.Refusal.TheVariants.{Short, Foreign, Malformed}
+use Rattle.messages.specs.Messages.{Taken, Command, taken_as, registers_of, refusal, response_of}
 use Rattle.mailbox.specs.Commands.{Outcome}
 use Rattle.mailbox.specs.Mediator.{mediate}
 
@@ -26,9 +25,9 @@ mediated message o =
 
 -- what is left of a message, by what became of it
 abbrev pub served_as : Taken → Setup → List ℕ → Machine → Served
-served_as Short setup message m = untouched (refusal Short message) m
-served_as Foreign setup message m = untouched (refusal Foreign message) m
-served_as Malformed setup message m = untouched (refusal Malformed message) m
+served_as (Err Short) setup message m = untouched (refusal Short message) m
+served_as (Err Foreign) setup message m = untouched (refusal Foreign message) m
+served_as (Err Malformed) setup message m = untouched (refusal Malformed message) m
 served_as Command setup message m = mediated message (mediate setup (registers_of m.session.version message) m)
 
 unfoldable pub served : Setup → Pair → List ℕ → Machine → Served

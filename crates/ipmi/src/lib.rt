@@ -10,7 +10,7 @@ ghost use Rattle.mailbox.specs.Mediator.{mediate};
 ghost use Rattle.ipmi.specs.Served.{mediated, served};
 
 use mailbox::command;
-use messages::{Pair, Response, Taken, open_message, pack, refuse};
+use messages::{Pair, Response, open_message, pack, refuse};
 use session::{Board, Session};
 
 // What a message gives back: the session, the response and the number of chip actions.
@@ -22,6 +22,7 @@ pub struct Reply {
 }
 
 // Serves one message for the board's pair.
+#[tactic(auto, using(crate::proofs::Serving::served_command, crate::proofs::Serving::served_refused))]
 pub fn serve_message(
     session: Session,
     board: Board,
@@ -36,14 +37,11 @@ pub fn serve_message(
         × (result.response ≡ laid (served (set_up board) pair message.now (lent session flash.old worn.now memory.old)).response)
         × (result.actions ≡ (served (set_up board) pair message.now (lent session flash.old worn.now memory.old)).actions) }
 {
-    let opened = open_message(pair, session.version, message);
-    let taken = opened.taken;
-    let registers = opened.registers;
-    match taken {
-        Taken::Command => serve_command(session, board, message, registers, flash, worn, memory),
-        _ => Reply {
+    match open_message(pair, session.version, message) {
+        Ok(registers) => serve_command(session, board, message, registers, flash, worn, memory),
+        Err(refused) => Reply {
             session,
-            response: refuse(taken, message),
+            response: refuse(refused, message),
             actions: 0,
         },
     }
@@ -65,11 +63,9 @@ fn serve_command(
         × (result.actions ≡ (mediate (set_up board) registers (lent session flash.old worn.now memory.old)).actions) }
 {
     let answer = command(session, registers, board, flash, worn, memory);
-    let after = answer.session;
-    let replied = answer.registers;
     Reply {
-        session: after,
-        response: pack(message, after.version, replied),
+        session: answer.session,
+        response: pack(message, answer.session.version, answer.registers),
         actions: answer.actions,
     }
 }

@@ -1,59 +1,59 @@
 -- What a message leaves of a record, by what the code was told of it, and beside the session that the record stands for: specs/Messages.antt.
 use mathlib.Core.Path.{◌≡◌, refl, sym, ap, subst, ◌∙◌}
-use mathlib.Core.Bool.{true, false, false≢true}
+use mathlib.Core.Bool.{true, false}
 use mathlib.Core.List.{List, []}
 use Prim.Native.Nat.{ℕ, ◌≤◌}
 use native.Mathlib.Nat.{le_refl}
 use lib.Dec.{lit≤}
 use lib.ListN.{length}
+use Rattle.std.specs.Prelude.{Result, Ok, Err}
 use Rattle.session.specs.Machine.{Setup, lent}
 use Rattle.messages.specs.declared.Pair.{Pair}
-use Rattle.messages.specs.declared.Opened.{Opened}
-use Rattle.messages.specs.declared.Taken.{Taken}
-use Rattle.messages.specs.declared.Taken.TheVariants.{Short, Foreign, Malformed, Command}
-use Rattle.messages.specs.Messages.{taken_as, registers_of, registers_for, headed, refusal, response_of, opened, laid}
+use Rattle.messages.specs.declared.Refusal.{Refusal}
+use Rattle.messages.specs.declared.Refusal.TheVariants.{Short, Foreign, Malformed}
+use Rattle.messages.specs.Messages.{Taken, Command, taken_as, registers_of, headed, refusal, response_of, opened, opened_as, laid}
 use Rattle.messages.proofs.Cells.{filled_up}
-use Rattle.messages.proofs.Passing.{is_command}
 use Rattle.mailbox.specs.Mediator.{mediate}
 use Rattle.ipmi.proofs.Few.{few_bytes}
 use Rattle.ipmi.specs.Served.{Served, served_as, served}
 use Rattle.board.specs.declared.Record.{Record}
 use Rattle.board.specs.Calls.{commanded}
+use Rattle.ipmiboard.specs.declared.MessageReply.{MessageReply}
 use Rattle.ipmiboard.specs.Messages.{Messaged, untouched_record, mediated_record, messaged_as, messaged_record, reply_of, Tells, MessageFollows, MessageIrregular}
 use Rattle.board.specs.Record.{is_regular, session_of, record_of}
 use Rattle.board.proofs.Answers.{nothing_lost}
 use Rattle.board.proofs.Regular.{of_session}
 
--- by what became of it
-messaged_as_lem : (setup : Setup) (pair : Pair) (message : List ℕ) (h : Record) (flash worn memory : List ℕ) (t : Taken) → t ≡ taken_as pair h.version message
-    → messaged_as t setup message h flash worn memory ≡ messaged_record setup pair message h flash worn memory
+-- by its registers, or by the check that refused it
+abbrev left : Result (List ℕ) Refusal → Setup → List ℕ → Record → List ℕ → List ℕ → List ℕ → Messaged
+left (Ok registers) setup message h flash worn memory = mediated_record message (commanded setup h registers flash worn memory)
+left (Err refused) setup message h flash worn memory = untouched_record (laid (refusal refused message)) h flash memory
+
+left_as : (setup : Setup) (message : List ℕ) (h : Record) (flash worn memory : List ℕ) (t : Taken)
+    → left (opened_as t h.version message) setup message h flash worn memory ≡ messaged_as t setup message h flash worn memory
+left_as setup message h flash worn memory Command = refl
+left_as setup message h flash worn memory (Err Short) = refl
+left_as setup message h flash worn memory (Err Foreign) = refl
+left_as setup message h flash worn memory (Err Malformed) = refl
+
+left_opened : (setup : Setup) (pair : Pair) (message : List ℕ) (h : Record) (flash worn memory : List ℕ) (o : Result (List ℕ) Refusal)
+    → o ≡ opened pair h.version message → left o setup message h flash worn memory ≡ messaged_record setup pair message h flash worn memory
 unfolding messaged_record
-messaged_as_lem setup pair message h flash worn memory t e = ap (λ (q : Taken). messaged_as q setup message h flash worn memory) e
+left_opened setup pair message h flash worn memory o e =
+    ap (λ (q : Result (List ℕ) Refusal). left q setup message h flash worn memory) e
+    ∙ left_as setup message h flash worn memory (taken_as pair h.version message)
 
 -- a message that was taken
-pub messaged_command : (setup : Setup) (pair : Pair) (message : List ℕ) (h : Record) (flash worn memory : List ℕ) (o : Opened)
-    → o ≡ opened pair h.version message → o.taken ≡ Command
-    → mediated_record message (commanded setup h o.registers flash worn memory) ≡ messaged_record setup pair message h flash worn memory
-messaged_command setup pair message h flash worn memory o e c =
-    let taken = ap (λ (q : Opened). q.taken) e in
-    let registers = ap (λ (q : Opened). q.registers) e ∙ ap (λ (t : Taken). registers_for t h.version message) (sym taken ∙ c) in
-    ap (λ (r : List ℕ). mediated_record message (commanded setup h r flash worn memory)) registers
-    ∙ messaged_as_lem setup pair message h flash worn memory Command (sym c ∙ taken)
+pub messaged_command : (setup : Setup) (pair : Pair) (message : List ℕ) (h : Record) (flash worn memory : List ℕ) (registers : List ℕ)
+    → Ok registers ≡ opened pair h.version message
+    → mediated_record message (commanded setup h registers flash worn memory) ≡ messaged_record setup pair message h flash worn memory
+messaged_command setup pair message h flash worn memory registers = left_opened setup pair message h flash worn memory (Ok registers)
 
 -- one that was refused
-untouched_as : (setup : Setup) (message : List ℕ) (h : Record) (flash worn memory : List ℕ) (t : Taken) → (t ≡ Command → ⊥)
-    → untouched_record (laid (refusal t message)) h flash memory ≡ messaged_as t setup message h flash worn memory
-untouched_as setup message h flash worn memory Short o = refl
-untouched_as setup message h flash worn memory Foreign o = refl
-untouched_as setup message h flash worn memory Malformed o = refl
-untouched_as setup message h flash worn memory Command o = absurd (o refl)
-
-pub messaged_refused : (setup : Setup) (pair : Pair) (message : List ℕ) (h : Record) (flash worn memory : List ℕ) (o : Opened)
-    → o ≡ opened pair h.version message → (o.taken ≡ Command → ⊥)
-    → untouched_record (laid (refusal o.taken message)) h flash memory ≡ messaged_record setup pair message h flash worn memory
-messaged_refused setup pair message h flash worn memory o e k =
-    untouched_as setup message h flash worn memory o.taken k
-    ∙ messaged_as_lem setup pair message h flash worn memory o.taken (ap (λ (q : Opened). q.taken) e)
+pub messaged_refused : (setup : Setup) (pair : Pair) (message : List ℕ) (h : Record) (flash worn memory : List ℕ) (refused : Refusal)
+    → Err refused ≡ opened pair h.version message
+    → untouched_record (laid (refusal refused message)) h flash memory ≡ messaged_record setup pair message h flash worn memory
+messaged_refused setup pair message h flash worn memory refused = left_opened setup pair message h flash worn memory (Err refused)
 
 -- ---- beside the session
 
@@ -73,9 +73,9 @@ as_session h o s =
 same_as : (setup : Setup) (message : List ℕ) (h : Record) (flash worn memory : List ℕ) → is_regular h ≡ true → (t : Taken)
     → as_session h (messaged_as t setup message h flash worn memory) (served_as t setup message (lent (session_of h) flash worn memory))
 unfolding as_session commanded
-same_as setup message h flash worn memory e Short = (sym (nothing_lost.1 h e), refl, refl, refl, e)
-same_as setup message h flash worn memory e Foreign = (sym (nothing_lost.1 h e), refl, refl, refl, e)
-same_as setup message h flash worn memory e Malformed = (sym (nothing_lost.1 h e), refl, refl, refl, e)
+same_as setup message h flash worn memory e (Err Short) = (sym (nothing_lost.1 h e), refl, refl, refl, e)
+same_as setup message h flash worn memory e (Err Foreign) = (sym (nothing_lost.1 h e), refl, refl, refl, e)
+same_as setup message h flash worn memory e (Err Malformed) = (sym (nothing_lost.1 h e), refl, refl, refl, e)
 same_as setup message h flash worn memory e Command =
     let o = mediate setup (registers_of h.version message) (lent (session_of h) flash worn memory) in
     rw e (refl, refl, refl, refl, of_session h.previous o.machine.session)
@@ -99,19 +99,21 @@ as_it_was h message flash memory t o =
     × (o.flash ≡ flash)
     × (o.memory ≡ memory)
     × (t ≡ Command → Tells (headed message 0x84) 0 o.reply)
-    × ((t ≡ Command → ⊥) → Tells (refusal t message) 0 o.reply)
+    × ((refused : Refusal) → t ≡ Err refused → Tells (refusal refused message) 0 o.reply)
+
+-- the check that refused it
+of_refusal : (message : List ℕ) (reply : MessageReply) (r refused : Refusal) → ◌≡◌ {A = Taken} (Err r) (Err refused) → Tells (refusal r message) 0 reply
+    → Tells (refusal refused message) 0 reply
+of_refusal message reply r refused e = subst (λ (q : Refusal). Tells (refusal q message) 0 reply) cc
 
 irregular_as : (setup : Setup) (message : List ℕ) (h : Record) (flash worn memory : List ℕ) → is_regular h ≡ false → (t : Taken)
     → as_it_was h message flash memory t (messaged_as t setup message h flash worn memory)
 unfolding as_it_was commanded response_of
-irregular_as setup message h flash worn memory e Short =
-    (refl, refl, refl, λ c. absurd (false≢true (ap is_command c)), λ _. tells [] 0 (lit≤ tt))
-irregular_as setup message h flash worn memory e Foreign =
-    (refl, refl, refl, λ c. absurd (false≢true (ap is_command c)), λ _. tells (headed message 0xc1) 0 (lit≤ tt))
-irregular_as setup message h flash worn memory e Malformed =
-    (refl, refl, refl, λ c. absurd (false≢true (ap is_command c)), λ _. tells (headed message 0xc7) 0 (lit≤ tt))
-irregular_as setup message h flash worn memory e Command =
-    rw e (refl, refl, refl, λ _. tells (headed message 0x84) 0 (lit≤ tt), λ n. absurd (n refl))
+irregular_as setup message h flash worn memory e Command = rw e (refl, refl, refl, λ _. tells (headed message 0x84) 0 (lit≤ tt), λ refused n. cc)
+irregular_as setup message h flash worn memory e (Err Short) = (refl, refl, refl, λ c. cc, λ refused n. of_refusal message _ Short refused n (tells [] 0 (lit≤ tt)))
+irregular_as setup message h flash worn memory e (Err Foreign) = (refl, refl, refl, λ c. cc, λ refused n. of_refusal message _ Foreign refused n (tells (headed message 0xc1) 0 (lit≤ tt)))
+irregular_as setup message h flash worn memory e (Err Malformed) =
+    (refl, refl, refl, λ c. cc, λ refused n. of_refusal message _ Malformed refused n (tells (headed message 0xc7) 0 (lit≤ tt)))
 
 pub message_irregular : MessageIrregular
 unfolding as_it_was messaged_record

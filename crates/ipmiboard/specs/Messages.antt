@@ -1,11 +1,11 @@
 -- What a message leaves, over the record that C keeps: document 02, Ticket 6.
-use Rattle.std.specs.Prelude.{◌≡◌, ℕ, ◌-◌, ◌≤◌, true, false, List, ◌++◌, length, replicate}
+use Rattle.std.specs.Prelude.{◌≡◌, ℕ, ◌-◌, ◌≤◌, true, false, Err, List, ◌++◌, length, replicate}
 use Rattle.session.specs.Machine.{Setup, lent}
 use Rattle.messages.specs.declared.Pair.{Pair}
-use Rattle.messages.specs.declared.Taken.{Taken}
-use Rattle.messages.specs.declared.Taken.TheVariants.{Short, Foreign, Malformed, Command}
+use Rattle.messages.specs.declared.Refusal.{Refusal}
+use Rattle.messages.specs.declared.Refusal.TheVariants.{Short, Foreign, Malformed}
 use Rattle.messages.specs.declared.Response.{Response}
-use Rattle.messages.specs.Messages.{taken_as, registers_of, headed, refusal, response_of, laid}
+use Rattle.messages.specs.Messages.{Taken, Command, taken_as, registers_of, headed, refusal, response_of, laid}
 use Rattle.ipmi.specs.Served.{served}
 use Rattle.ipmiboard.specs.declared.MessageReply.{MessageReply}
 use Rattle.board.specs.declared.Record.{Record}
@@ -43,9 +43,9 @@ mediated_record message l =
 
 -- a message, by what became of it
 abbrev pub messaged_as : Taken → Setup → List ℕ → Record → List ℕ → List ℕ → List ℕ → Messaged
-messaged_as Short setup message h flash worn memory = untouched_record (laid (refusal Short message)) h flash memory
-messaged_as Foreign setup message h flash worn memory = untouched_record (laid (refusal Foreign message)) h flash memory
-messaged_as Malformed setup message h flash worn memory = untouched_record (laid (refusal Malformed message)) h flash memory
+messaged_as (Err Short) setup message h flash worn memory = untouched_record (laid (refusal Short message)) h flash memory
+messaged_as (Err Foreign) setup message h flash worn memory = untouched_record (laid (refusal Foreign message)) h flash memory
+messaged_as (Err Malformed) setup message h flash worn memory = untouched_record (laid (refusal Malformed message)) h flash memory
 messaged_as Command setup message h flash worn memory =
     mediated_record message (commanded setup h (registers_of h.version message) flash worn memory)
 
@@ -85,4 +85,4 @@ MessageIrregular =
     × (o.flash ≡ flash)
     × (o.memory ≡ memory)
     × (taken_as pair h.version message ≡ Command → Tells (headed message 0x84) 0 o.reply)
-    × ((taken_as pair h.version message ≡ Command → ⊥) → Tells (refusal (taken_as pair h.version message) message) 0 o.reply))
+    × ((refused : Refusal) → taken_as pair h.version message ≡ Err refused → Tells (refusal refused message) 0 o.reply))

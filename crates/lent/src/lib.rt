@@ -7,7 +7,7 @@ ghost use Rattle.std.specs.Prelude.{◌≡◌};
 ghost use Rattle.session.specs.Machine.{set_up, lent};
 ghost use Rattle.mailbox.specs.Mediator.{mediate};
 
-use mailbox::command;
+use mailbox::{Answer, command};
 use session::{Board, Session};
 
 // What a command gives back besides the session: the 16 registers and the number of chip actions.
@@ -18,6 +18,7 @@ pub struct Reply {
 }
 
 // Serves one mailbox command over a lent session.
+// The buffers are no struct: each function would also have to promise that its fields keep their ghost names.
 pub fn serve(
     session: &mut Session,
     registers: [u8; 16],
@@ -33,11 +34,11 @@ pub fn serve(
     }
         ≡ mediate (set_up board) registers (lent session.old flash.old worn.now memory.old) }
 {
-    let answer = command(*session, registers, board, flash, worn, memory);
-    let replied = answer.registers;
-    *session = answer.session;
-    Reply {
-        registers: replied,
-        actions: answer.actions,
-    }
+    let Answer {
+        session: after,
+        registers,
+        actions,
+    } = command(*session, registers, board, flash, worn, memory);
+    *session = after;
+    Reply { registers, actions }
 }
