@@ -17,22 +17,9 @@ pub const NO_ARGUMENTS: [u8; 11] = [0; 11];
 pub fn replied(registers: [u8; 16], code: u8, arguments: [u8; 11], events: u8) -> [u8; 16]
     ensures { result ≡ reply registers code arguments events }
 {
-    [
-        registers[0],
-        registers[1],
-        arguments[0],
-        arguments[1],
-        arguments[2],
-        arguments[3],
-        arguments[4],
-        arguments[5],
-        arguments[6],
-        arguments[7],
-        arguments[8],
-        arguments[9],
-        arguments[10],
-        code,
-        registers[14],
-        events,
-    ]
+    let mut reply = registers;
+    reply[2..13].copy_from_slice(&arguments);
+    reply[13] = code;
+    reply[15] = events;
+    reply
 }
