@@ -19,7 +19,7 @@ pub fn replied(registers: [u8; 16], code: u8, arguments: [u8; 11], events: u8) -
 {
     let [command, sequence, .., status, _] = registers;
     let [a0, a1, a2, a3, a4, a5, a6, a7, a8, a9, a10] = arguments;
-    // No copy_from_slice of the arguments: measured, its test for an overlap is 3 of 100 of a short command's time.
+    // No copy_from_slice of the arguments: it tests for an overlap, and takes 25 instructions where this takes 9 (objdump).
     [
         command, sequence, a0, a1, a2, a3, a4, a5, a6, a7, a8, a9, a10, code, status, events,
     ]
