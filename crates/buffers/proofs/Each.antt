@@ -1,12 +1,13 @@
 -- Laws of two buffers combined byte by byte, for any way to combine two bytes, and of a loop that does it: after i turns the first i bytes
--- are done. Then of one that is copied over the other.
-use mathlib.Core.Path.{◌≡◌, refl, ap}
+-- are done.
+use mathlib.Core.Path.{◌≡◌, refl, ap, ◌∙◌}
 use mathlib.Core.List.{List, [], ◌∷◌, ◌++◌}
 use Prim.Native.Nat.{ℕ, zero, suc, ◌+◌, ◌≤◌, ◌<◌, min, suc-le-suc, zero-le}
 use native.Mathlib.Nat.{not-suc-le-zero, le_of_suc-le-suc}
 use native.Mathlib.Numerals.{add-one}
 use native.Mathlib.Omega.{arith}
 use lib.ListN.{length, get_or, set, take, drop, take-append-drop}
+use lib.Seq.{length-take-le}
 use Rattle.buffers.specs.Ranges.{each, copy_each}
 
 module _ (f : ℕ → ℕ → ℕ) where
@@ -33,12 +34,12 @@ module _ (f : ℕ → ℕ → ℕ) where
   step (suc i) (x ∷ xs) (y ∷ ys) h k = ap (λ (t : List ℕ). f x y ∷ t) (step i xs ys (le_of_suc-le-suc h) (le_of_suc-le-suc k))
 
   -- one turn
-  pub each_more : (i : ℕ) (xs ys : List ℕ) → i < length xs → i < length ys
+  each_more : (i : ℕ) (xs ys : List ℕ) → i < length xs → i < length ys
       → set (part_way i xs ys) i (f (get_or (part_way i xs ys) i 0) (get_or ys i 0)) ≡ part_way (i + 1) xs ys
   each_more i xs ys h k = rw add-one (step i xs ys h k)
 
   -- the last turn: one of the two has no byte left
-  pub each_all : (n : ℕ) (xs ys : List ℕ) → n ≤ length xs → (n < length xs → length ys ≤ n) → part_way n xs ys ≡ each f xs ys
+  each_all : (n : ℕ) (xs ys : List ℕ) → n ≤ length xs → (n < length xs → length ys ≤ n) → part_way n xs ys ≡ each f xs ys
   each_all zero [] ys h k = refl
   each_all zero (x ∷ xs) [] h k = refl
   each_all zero (x ∷ xs) (y ∷ ys) h k = absurd (not-suc-le-zero (k (suc-le-suc zero-le)))
@@ -47,17 +48,24 @@ module _ (f : ℕ → ℕ → ℕ) where
   each_all (suc n) (x ∷ xs) (y ∷ ys) h k =
       ap (λ (t : List ℕ). f x y ∷ t) (each_all n xs ys (le_of_suc-le-suc h) (λ p. le_of_suc-le-suc (k (suc-le-suc p))))
 
--- as far as both go the other's bytes, and then what is left
-copied : (n : ℕ) (xs ys : List ℕ) → n ≡ min (length xs) (length ys) → take n ys ++ drop n xs ≡ copy_each xs ys
-copied zero [] ys e = refl
-copied zero (x ∷ xs) [] e = refl
-copied zero (x ∷ xs) (y ∷ ys) e = absurd (omega arith)
-copied (suc n) [] ys e = absurd (omega arith)
-copied (suc n) (x ∷ xs) [] e = absurd (omega arith)
-copied (suc n) (x ∷ xs) (y ∷ ys) e = ap (λ (t : List ℕ). y ∷ t) (copied n xs ys (omega arith))
+  -- one turn over the n bytes that both have, which are lent alone
+  pub each_turn : (n i : ℕ) (xs ys zs : List ℕ) → n ≡ min (length xs) (length ys) → i < n → zs ≡ part_way i (take n xs) ys
+      → set zs i (f (get_or zs i 0) (get_or ys i 0)) ≡ part_way (i + 1) (take n xs) ys
+  each_turn n i xs ys zs m h e =
+      let long : length (take n xs) ≡ n = length-take-le n xs (omega arith) in
+      rw e (each_more i (take n xs) ys (omega arith) (omega arith))
 
-pub copied_back : (n : ℕ) (xs ys zs : List ℕ) → zs ≡ take n ys → n ≡ min (length xs) (length ys) → zs ++ drop n xs ≡ copy_each xs ys
-copied_back n xs ys zs q e = rw q (copied n xs ys e)
+  -- and after the last turn, with the bytes behind them
+  pub each_back : (n i : ℕ) (xs ys zs : List ℕ) → n ≡ min (length xs) (length ys) → i ≡ n → zs ≡ part_way i (take n xs) ys
+      → zs ++ drop n xs ≡ each f xs ys
+  each_back n i xs ys zs m h e =
+      let long : length (take n xs) ≡ n = length-take-le n xs (omega arith) in
+      ap (λ (t : List ℕ). t ++ drop n xs) (e ∙ each_all i (take n xs) ys (omega arith) (λ p. omega arith))
+      ∙ each_all n xs ys (omega arith) (λ p. omega arith)
+
+-- each byte by the other
+abbrev pub second : ℕ → ℕ → ℕ
+second old new = new
 
 -- one as long is copied whole
 pub copy_whole : (xs ys : List ℕ) → length ys ≡ length xs → copy_each xs ys ≡ ys

@@ -1,5 +1,5 @@
 // Reading numbers from the 16 registers.
-ghost use Rattle.std.specs.Prelude.{◌≡◌, ◌<◌};
+ghost use Rattle.std.specs.Prelude.{◌≡◌};
 ghost use Rattle.registers.specs.Registers.{number};
 
 // Two 16-bit arguments.
@@ -13,9 +13,10 @@ pub struct Words {
 pub fn read_words(registers: [u8; 16]) -> Words
     ensures { (result.first ≡ number 2 0 registers) × (result.second ≡ number 2 2 registers) }
 {
+    let [_, _, a0, a1, a2, a3, ..] = registers;
     Words {
-        first: word(registers, 0),
-        second: word(registers, 2),
+        first: u16::from_le_bytes([a0, a1]),
+        second: u16::from_le_bytes([a2, a3]),
     }
 }
 
@@ -23,23 +24,6 @@ pub fn read_words(registers: [u8; 16]) -> Words
 pub fn read_length(registers: [u8; 16]) -> u32
     ensures { result ≡ number 4 2 registers }
 {
-    long(registers, 2)
-}
-
-// The 16-bit number in arguments i and i + 1.
-fn word(registers: [u8; 16], i: usize) -> u16
-    requires { i < 10 }
-    ensures { result ≡ number 2 i registers }
-{
-    let low = 2 + i;
-    let high = 3 + i;
-    (registers[low] as u16) + (registers[high] as u16) * 256
-}
-
-// The 32-bit number in arguments i to i + 3.
-fn long(registers: [u8; 16], i: usize) -> u32
-    requires { i < 8 }
-    ensures { result ≡ number 4 i registers }
-{
-    (word(registers, i) as u32) + (word(registers, i + 2) as u32) * 65536
+    let [_, _, _, _, a2, a3, a4, a5, ..] = registers;
+    u32::from_le_bytes([a2, a3, a4, a5])
 }

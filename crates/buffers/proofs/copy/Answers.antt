@@ -1,0 +1,19 @@
+-- `buffers::copy`: one turn more, and the last.
+use Rattle.std.proofs.Common.{arith}
+use lib.Seq.{length-take-le}
+use Rattle.buffers.proofs.Each.{each_turn, each_back, second}
+use Rattle.buffers.proofs.copy.Goals as goal
+
+pub loop-i-preserved : goal.loop-i-preserved
+loop-i-preserved c =
+    let n = c.min-end.result in
+    let xs = c.args.part.now in
+    let long = length-take-le n xs (omega arith) in
+    each_turn second n c.loop-i.i xs c.args.other.now c.loop-i.byte-items c.min-end.ensures (omega arith) c.loop-i.invariant
+
+pub returns : goal.returns
+returns c =
+    let n = c.min-end.result in
+    let xs = c.args.part.now in
+    let long = length-take-le n xs (omega arith) in
+    each_back second n c.loop-i.i xs c.args.other.now c.loop-i.byte-items c.min-end.ensures (omega arith) c.loop-i.invariant
