@@ -53,3 +53,8 @@ of_kind bytes kind at =
 -- the record whose first byte stands at an offset
 unfoldable pub record_at : List ℕ → ℕ → Option Item
 record_at bytes at = with_number (read_at bytes at) (of_kind bytes)
+
+-- the offset past a record
+abbrev pub next_of : Option Item → ℕ
+next_of None = 0
+next_of (Some item) = item.next
