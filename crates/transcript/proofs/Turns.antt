@@ -1,20 +1,20 @@
 -- A run under way: what is left of it ends as the whole run does.
-use mathlib.Core.Path.{◌≡◌, sym, ap, ◌∙◌}
-use mathlib.Core.Bool.{true, false}
+use mathlib.Core.Path.{◌≡◌, refl, sym, ap, ◌∙◌}
 use mathlib.Core.List.{List, [], ◌++◌, append-nil}
 use Prim.Native.Nat.{ℕ, ◌≤◌, ◌<◌}
 use lib.ListN.{length}
 use Rattle.session.specs.declared.Session.{Session}
 use Rattle.session.specs.Machine.{Machine, lent}
 use Rattle.session.specs.Record.{fresh}
-use Rattle.records.specs.declared.Item.{Item}
-use Rattle.script.specs.declared.Served.{Served}
+use Rattle.std.specs.Prelude.{Some, None}
 use Rattle.records.specs.Records.{record_at}
-use Rattle.script.specs.Effects.{none_worn, Effect, effected, effect}
+use Rattle.script.specs.declared.Served.{Served}
+use Rattle.script.specs.Effects.{none_worn, Effect, effected}
+use Rattle.script.proofs.Progress.{moves_on}
 use Rattle.transcript.specs.Printing.{written, answer_text, bad_line}
 use Rattle.transcript.specs.Run.{Ran, ended, after, bench, run_from}
 use Rattle.transcript.proofs.Written.{Put, from_front, Left, left_all_lem, left_put, left_as, left_none}
-use Rattle.transcript.proofs.Runs.{rest_from, rest_none, rest_all, rest_good, rest_bad}
+use Rattle.transcript.proofs.Runs.{at_record, past_record, rest_from, rest_none, rest_all, rest_good, rest_bad}
 
 module _ (input flash₀ memory₀ text₀ : List ℕ) where
   -- the whole run
@@ -50,25 +50,28 @@ module _ (input flash₀ memory₀ text₀ : List ℕ) where
 
   -- one record
   module _ (at : ℕ) (m : Machine) (end : ℕ) (text : List ℕ) (going : Going at m end text) (here : at < length input)
-      (item : Item) (read : item ≡ record_at input at) (served : Served) (flash' memory' : List ℕ)
-      (p : effected served flash' memory' ≡ effect bench item m) (end' : ℕ) (text' : List ℕ) where
+      (flash' memory' : List ℕ) (end' : ℕ) (text' : List ℕ) where
     -- it breaks the rules
-    pub over_bad : served.good ≡ false → Put end (bad_line at) text end' text' → Gone flash' end' text'
-    over_bad bad put =
+    pub over_bad : effected m.session None flash' memory' ≡ at_record bench input at m → Put end (bad_line at) text end' text' → Gone flash' end' text'
+    over_bad p put =
         over at m end text (bad_line at) flash' end' text'
-        (rest_bad bench input at m item read here (sym (ap (λ (e : Effect). e.good) p) ∙ bad)
+        (rest_bad bench input at m here (sym (ap (λ (e : Effect). e.good) p))
         ∙ sym (ap (λ (e : Effect). ended (bad_line at) e.machine.flash) p)
         ∙ ap (λ (t : List ℕ). ended t flash') (sym (append-nil (bad_line at))))
         going put
 
-    -- it keeps them
-    pub goes_on : served.good ≡ true → Put end (answer_text item.kind served.registers) text end' text'
-        → Going item.next (lent served.session flash' none_worn memory') end' text'
-    goes_on good put =
-        let e : rest_from bench input at m ≡ after (answer_text item.kind served.registers) (rest_from bench input item.next (lent served.session flash' none_worn memory')) =
-        rest_good bench input at m item read here (sym (ap (λ (e : Effect). e.good) p) ∙ good)
-        ∙ sym (ap (λ (e : Effect). after (answer_text item.kind e.registers) (rest_from bench input item.next e.machine)) p) in (
-          sym (ap (λ (t : Ran). t.flash) e) ∙ going.0,
-          left_put 0 total.text text₀ end (answer_text item.kind served.registers) (rest_from bench input item.next (lent served.session flash' none_worn memory')).text text end' text'
-              (left_as 0 total.text text₀ end _ _ text (ap (λ (t : Ran). t.text) e) going.1) put,
-        )
+    -- it keeps them, and ends past its first byte
+    module _ (served : Served) (p : effected m.session (Some served) flash' memory' ≡ at_record bench input at m) (next : ℕ) (e : next ≡ past_record bench input at) where
+      pub moved_on : at < next
+      moved_on = rw e (moves_on input at (record_at input at) refl bench m (sym (ap (λ (e : Effect). e.good) p)))
+
+      pub goes_on : Put end (answer_text served.answer) text end' text' → Going next (lent served.session flash' none_worn memory') end' text'
+      goes_on put =
+          let r : rest_from bench input at m ≡ after (answer_text served.answer) (rest_from bench input next (lent served.session flash' none_worn memory')) =
+          rest_good bench input at m here (sym (ap (λ (e : Effect). e.good) p))
+          ∙ sym (ap (λ (e : Effect). after (answer_text e.answer) (rest_from bench input (past_record bench input at) e.machine)) p)
+          ∙ sym (ap (λ (n : ℕ). after (answer_text served.answer) (rest_from bench input n (lent served.session flash' none_worn memory'))) e) in (
+            sym (ap (λ (t : Ran). t.flash) r) ∙ going.0,
+            left_put 0 total.text text₀ end (answer_text served.answer) (rest_from bench input next (lent served.session flash' none_worn memory')).text text end' text'
+                (left_as 0 total.text text₀ end _ _ text (ap (λ (t : Ran). t.text) r) going.1) put,
+          )

@@ -1,9 +1,8 @@
 // Bytes, numbers and lines put into a text.
 ghost use Rattle.std.specs.Prelude.{◌≡◌, ◌+◌, ◌≤◌, ◌<◌, length};
-ghost use Rattle.transcript.specs.Printing.{written, decimal, bad_line, is_command, answer_text, count_text, flash_line};
+ghost use Rattle.transcript.specs.Printing.{written, decimal, bad_line, answer_text, count_text, flash_line};
 
 use crate::text::{count_written, register_line};
-use records::Kind;
 use units::{BLOCK, Blocks};
 
 // Puts bytes from a place on, each where there is room, and answers the place past them.
@@ -12,13 +11,10 @@ pub(crate) fn put(text: &mut [u8], at: usize, part: &[u8]) -> usize
     ensures { (result ≡ at + length part.now)
         × (text.new ≡ written at part.now text.old) }
 {
-    let mut i = 0;
-    while i < part.len() {
-        let place = at + i;
-        if place < text.len() {
-            text[place] = part[i];
+    for (i, byte) in part.iter().enumerate() {
+        if at + i < text.len() {
+            text[at + i] = *byte;
         }
-        i += 1;
     }
     at + part.len()
 }
@@ -46,28 +42,14 @@ pub(crate) fn put_bad(text: &mut [u8], at: usize, offset: usize) -> usize
 }
 
 // Puts what a record prints: the registers after a command.
-pub(crate) fn put_answer(text: &mut [u8], at: usize, kind: Kind, registers: [u8; 16]) -> usize
+pub(crate) fn put_answer(text: &mut [u8], at: usize, answer: Option<[u8; 16]>) -> usize
     requires { at ≤ 1000000 }
-    ensures { (result ≡ at + length (answer_text kind registers))
-        × (text.new ≡ written at (answer_text kind registers) text.old) × (result ≤ at + 48) }
+    ensures { (result ≡ at + length (answer_text answer))
+        × (text.new ≡ written at (answer_text answer) text.old) × (result ≤ at + 48) }
 {
-    if is_command(kind) {
-        let line = register_line(registers);
-        return put(text, at, &line);
-    }
-    at
-}
-
-fn is_command(kind: Kind) -> bool
-    ensures { result ≡ is_command kind }
-{
-    match kind {
-        Kind::Command => true,
-        Kind::Fill => false,
-        Kind::Suspend => false,
-        Kind::Resume => false,
-        Kind::ResumeChanged => false,
-        Kind::Malformed => false,
+    match answer {
+        Some(registers) => put(text, at, &register_line(registers)),
+        None => at,
     }
 }
 
@@ -90,10 +72,8 @@ pub(crate) fn put_flash(text: &mut [u8], at: usize, flash: &[u8]) -> usize
         × (text.new ≡ written at (flash_line 4 flash.now) text.old) × (result ≤ at + 90) }
 {
     let mut end = put(text, at, b"flash");
-    let mut block: u32 = 0;
-    while block < 4 {
+    for block in 0..4 {
         end = put_count(text, end, flash, Blocks(block));
-        block += 1;
     }
     put(text, end, b"\n")
 }

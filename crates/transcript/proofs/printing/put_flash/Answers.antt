@@ -10,11 +10,10 @@ loop-block-preserved c =
     let word = c.put-end in
     let l = c.loop-block in
     let count = c.put_count-end in (
-      omega arith,
       omega (arith, count.ensures.2),
       search rules,
       left_put word.result (counts_left 0 flash) word.new.text l.end (count_text l.block flash) (counts_left (l.block + 1) flash) l.text count.result count.new.text
-          (left_as word.result (counts_left 0 flash) word.new.text l.end _ _ l.text (counts_more l.block flash c.loop-block-test.true) l.invariant.3)
+          (left_as word.result (counts_left 0 flash) word.new.text l.end _ _ l.text (counts_more l.block flash c.loop-block-test.true) l.invariant.2)
           (count.ensures.0, count.ensures.1),
     )
 
@@ -28,10 +27,10 @@ returns c =
     let done =
     left_none word.result counts word.new.text end.result end.new.text
     (left_put word.result counts word.new.text l.end (10 ∷ []) [] l.text end.result end.new.text
-    (left_as word.result counts word.new.text l.end _ _ l.text (counts_none l.block a.flash.now c.loop-block-test.false) l.invariant.3)
+    (left_as word.result counts word.new.text l.end _ _ l.text (counts_none l.block a.flash.now c.loop-block-test.false) l.invariant.2)
     end.ensures) in
     let line = joined a.at word.result end.result flash_word counts a.text.now word.new.text end.new.text word.ensures done in (
       line.0 ∙ ap (λ (t : List ℕ). a.at + length t) (flash_line_lem a.flash.now),
       line.1 ∙ ap (λ (t : List ℕ). written a.at t a.text.now) (flash_line_lem a.flash.now),
-      omega (arith, end.ensures.0, l.invariant.1, l.invariant.0),
+      omega (arith, end.ensures.0, l.invariant.0, c.loop-block.auto),
     )
