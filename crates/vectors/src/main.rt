@@ -16,13 +16,18 @@ fn main(rt: HostRuntime) -> io::Result<()> {
         written(&rt, value)?;
     }
     refused_write(&rt)?;
-    read(&rt, b"\x7f")?;
-    read(&rt, b"\xac\x02")?;
-    read(&rt, b"\xff\xff\xff\xff\x0f")?;
-    read(&rt, b"\xff\xff\xff\xff\x10")?;
-    read(&rt, b"\x80\x00")?;
-    read(&rt, b"\x80\x80")?;
-    read(&rt, b"")?;
+    let parts: [&[u8]; 7] = [
+        b"\x7f",
+        b"\xac\x02",
+        b"\xff\xff\xff\xff\x0f",
+        b"\xff\xff\xff\xff\x10",
+        b"\x80\x00",
+        b"\x80\x80",
+        b"",
+    ];
+    for part in parts {
+        read(&rt, part)?;
+    }
     chip_actions(&rt)?;
     kcs_exchange(&rt)
 }
