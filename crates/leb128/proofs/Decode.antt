@@ -1,13 +1,16 @@
 -- Laws of `decode` at an offset of a list, for the reader's loops.
 use mathlib.Core.Path.{◌≡◌, refl, sym, ap, ◌∙◌, subst}
-use mathlib.Core.List.{List}
+use mathlib.Core.List.{List, [], ◌∷◌}
+use mathlib.Core.Logic.{◌⊎◌, inl, inr}
 use Prim.Native.Nat.{ℕ, zero, suc, ◌+◌, ◌-◌, ◌*◌, ◌%◌, ◌^◌, ◌≤◌, ◌<◌}
 use native.Mathlib.Numerals.{add-one}
 use native.Mathlib.Omega.{arith}
-use lib.ListN.{length, get_or, drop, drop_of_length-le}
-use lib.Seq.{drop-cons}
+use lib.ListN.{length, get_or, drop, length-drop}
+use lib.Seq.{drop-cons, get_or-drop}
 use borrow.Author.Tests.{lt-ltb, le-ltb, eq-eqb, ne_eqb}
-use Rattle.leb128.specs.declared.Read.TheVariants.{Number, Short, Malformed}
+use Rattle.std.specs.Prelude.{Ok, Err}
+use Rattle.std.specs.List.{All, HoldsAt, AllWithin}
+use Rattle.leb128.specs.declared.ReadError.TheVariants.{Short, Malformed}
 use Rattle.leb128.specs.Groups.{Decoded, found, cut_short, not_shortest, decode, before, bounded, read_at}
 use Rattle.leb128.specs.Run.{Run}
 
@@ -21,10 +24,15 @@ pub decode_more : (s : List ℕ) (i : ℕ) → i < length s → 128 ≤ get_or s
 unfolding decode
 decode_more s i h k = rw (drop-cons s i 0 h, le-ltb _ _ k, add-one)
 
--- past the end there is nothing
-pub decode_end : (s : List ℕ) (i : ℕ) → length s ≤ i → decode (drop i s) ≡ cut_short
+-- groups that all go on do not end a number
+goes_on : (xs : List ℕ) → All (λ b. 128 ≤ b) xs → decode xs ≡ cut_short
 unfolding decode
-decode_end s i h = rw drop_of_length-le
+goes_on [] h = refl
+goes_on (b ∷ bs) h = rw (le-ltb b 128 (h 0 0 (omega arith)), goes_on bs (λ k d q. h (suc k) d (omega arith)))
+
+pub read_short : (s : List ℕ) (at : ℕ) → All (λ b. 128 ≤ b) (drop at s) → read_at s at ≡ Err Short
+unfolding read_at
+read_short s at h = ap (bounded at) (goes_on (drop at s) h)
 
 -- what holds of the number read at j holds of that read at an offset before it, if groups that go on lie between and keep it
 pub spread : (P : Decoded → Type 0) → ((low : ℕ) (r : Decoded) → P r → P (before low r)) → (s : List ℕ) (d at j : ℕ) → at + d ≡ j
@@ -50,21 +58,30 @@ refused_before low not_shortest longer = longer
 refused_before low (found value size) (large h) =
     rw (ne_eqb value 0 (λ e. omega arith)) (large {value = value * 128 + low} (omega arith))
 
-refused_bounded : (at : ℕ) {r : Decoded} → Refused r → bounded at r ≡ Malformed
+refused_bounded : (at : ℕ) {r : Decoded} → Refused r → bounded at r ≡ Err Malformed
 refused_bounded at longer = refl
 refused_bounded at (large {value} h) = rw (le-ltb value (2 ^ 32) h)
 
-module _ (s : List ℕ) (at last : ℕ) (run : Run s at last) where
-  -- the groups run to the end of the bytes
-  pub read_short : length s ≤ last → read_at s at ≡ Short
-  unfolding read_at
-  read_short h =
-      ap (bounded at)
-      (spread (λ r. r ≡ cut_short) (λ low r e. ap (before low) e) s (last - at) at last (omega (arith, run.rises)) run.set (decode_end s last h))
+-- the first byte from an offset on whose top bit is clear ends such groups
+pub run_to_first : (s : List ℕ) (at i : ℕ) → (i < length (drop at s)) × HoldsAt (λ b. b < 128) (drop at s) i × AllWithin (λ b. 128 ≤ b) (drop at s) 0 i
+    → (at + i < length s) × Run s at (at + i)
+run_to_first s at i h =
+    let size = length-drop at s in (
+      omega arith,
+      record {
+        rises = omega arith;
+        set = λ k p q. (subst (λ (j : ℕ). 128 ≤ get_or s j 0) (at_more k q) (rw get_or-drop at (h.2 (k - at) 0 (omega arith) (omega arith))), omega arith);
+        clear = λ p. rw get_or-drop at (h.1 0);
+      },
+    )
+  where
+    at_more : (k : ℕ) → at ≤ k → at + (k - at) ≡ k
+    at_more k q = omega arith
 
+module _ (s : List ℕ) (at last : ℕ) (run : Run s at last) where
   -- the number behind offset i, with a group before it
   module _ (i value : ℕ) (low : at < i) (high : i ≤ last) (read : decode (drop i s) ≡ found value (last + 1 - i)) where
-    pub read_before : decode (drop (i - 1) s) ≡ before (get_or s (i - 1) 0 % 128) (found value (last + 1 - i))
+    read_before : decode (drop (i - 1) s) ≡ before (get_or s (i - 1) 0 % 128) (found value (last + 1 - i))
     read_before =
         let here = run.set (i - 1) (omega arith) (omega arith) in
         decode_more s (i - 1) here.1 here.0
@@ -74,19 +91,16 @@ module _ (s : List ℕ) (at last : ℕ) (run : Run s at last) where
         back : (i : ℕ) → at < i → i - 1 + 1 ≡ i
         back i h = omega arith
 
-    refuse : Refused (decode (drop (i - 1) s)) → read_at s at ≡ Malformed
+    refuse : Refused (decode (drop (i - 1) s)) → read_at s at ≡ Err Malformed
     unfolding read_at
     refuse r =
         refused_bounded at
         (spread Refused refused_before s (i - 1 - at) at (i - 1) (omega arith) (λ k p q. run.set k (omega arith) q) r)
 
-    -- not the shortest form
-    pub read_zero : value ≡ 0 → read_at s at ≡ Malformed
-    read_zero e = refuse (subst Refused (sym (read_before ∙ rw (eq-eqb value 0 e))) longer)
-
-    -- 2^32 or more with the next group
-    pub read_large : 2 ^ 25 ≤ value → read_at s at ≡ Malformed
-    read_large h =
+    -- not the shortest form, or 2^32 or more with the next group
+    pub read_refused : (value ≡ 0) ⊎ (0x1ff_ffff < value) → read_at s at ≡ Err Malformed
+    read_refused (inl e) = refuse (subst Refused (sym (read_before ∙ rw (eq-eqb value 0 e))) longer)
+    read_refused (inr h) =
         refuse (subst Refused (sym (read_before ∙ rw (ne_eqb value 0 (λ e. omega arith))))
         (large {value = value * 128 + get_or s (i - 1) 0 % 128} {size = last + 1 - i + 1} (omega arith)))
 
@@ -100,7 +114,7 @@ module _ (s : List ℕ) (at last : ℕ) (run : Run s at last) where
         count i h k = omega arith
 
   -- all groups are read
-  pub read_whole : (value : ℕ) → decode (drop at s) ≡ found value (last + 1 - at) → value < 2 ^ 32 → read_at s at ≡ Number value (last + 1)
+  pub read_whole : (value : ℕ) → decode (drop at s) ≡ found value (last + 1 - at) → value < 2 ^ 32 → read_at s at ≡ Ok (record { value = value; next = last + 1 })
   unfolding read_at
   read_whole value e h =
-      ap (bounded at) e ∙ rw (lt-ltb value (2 ^ 32) h) (ap (λ (n : ℕ). Number value n) (omega (arith, run.rises)))
+      ap (bounded at) e ∙ rw (lt-ltb value (2 ^ 32) h) (ap (λ (n : ℕ). Ok (record { value = value; next = n })) (omega (arith, run.rises)))

@@ -12,7 +12,7 @@ use lib.ListN.{length, get_or, set, take, drop}
 use lib.Seq.{set_split, set_at, take-suc, length-take-le}
 use borrow.Author.Tests.{lt-ltb, le-ltb, le-leb, lt-leb}
 use Rattle.buffers.specs.Ranges.{replace}
-use Rattle.leb128.specs.declared.Written.TheVariants.{Next, NoRoom}
+use Rattle.std.specs.Prelude.{Some, None}
 use Rattle.leb128.specs.Groups.{groups, encode, written_at, bytes_after}
 
 -- any two bounds that are large enough give the same groups
@@ -62,18 +62,16 @@ set_before s ys at v h =
     ∙ ap (λ (n : ℕ). take at s ++ (v ∷ (ys ++ drop n s))) past
 
 module _ (s : List ℕ) (at v : ℕ) where
-  pub write_none : length s ≤ at → (written_at v at s ≡ NoRoom) × (bytes_after v at s ≡ s)
-  write_none h =
-      let e = lt-leb (at + length (encode v)) (length s) (omega (arith, encode_some v)) in
-      (rw e, rw e)
+  pub written_none : length s ≤ at → written_at v at s ≡ None
+  written_none h = rw (lt-leb (at + length (encode v)) (length s) (omega (arith, encode_some v)))
 
-  pub write_small : at < length s → v < 128 → (written_at v at s ≡ Next (at + 1)) × (bytes_after v at s ≡ set s at v)
+  pub write_small : at < length s → v < 128 → (written_at v at s ≡ Some (at + 1)) × (bytes_after v at s ≡ set s at v)
   write_small h k =
       let e : leb (at + 1) (length s) ≡ true = le-leb (at + 1) (length s) (omega arith) in
       (rw (encode_small v k, e), rw (encode_small v k, e) (sym (set_is_replace s at v h)))
 
   -- its answer, and its byte
-  pub written_small : at < length s → v < 128 → written_at v at s ≡ Next (at + 1)
+  pub written_small : at < length s → v < 128 → written_at v at s ≡ Some (at + 1)
   written_small h k = (write_small h k).0
 
   pub bytes_small : at < length s → v < 128 → bytes_after v at s ≡ set s at v
@@ -91,8 +89,8 @@ module _ (s : List ℕ) (at v : ℕ) where
   replace_large h k =
       ap (λ (ys : List ℕ). replace at ys s) (encode_large v k) ∙ sym (set_before s (encode (v / 128)) at (v % 128 + 128) h)
 
-  pub write_large : {next : ℕ} → at < length s → 128 ≤ v → written_at (v / 128) (at + 1) s ≡ Next next
-      → (written_at v at s ≡ Next next) × (bytes_after v at s ≡ set (bytes_after (v / 128) (at + 1) s) at (v % 128 + 128))
+  pub write_large : {next : ℕ} → at < length s → 128 ≤ v → written_at (v / 128) (at + 1) s ≡ Some next
+      → (written_at v at s ≡ Some next) × (bytes_after v at s ≡ set (bytes_after (v / 128) (at + 1) s) at (v % 128 + 128))
   write_large {next} h k w =
       ⊎_elim
       (λ (e : leb (at + 1 + length (encode (v / 128))) (length s) ≡ true).
@@ -100,11 +98,11 @@ module _ (s : List ℕ) (at v : ℕ) where
       (λ e. absurd (never (rw e at w)))
       (decided (leb (at + 1 + length (encode (v / 128))) (length s)))
     where
-      never : NoRoom ≡ Next next → ⊥
+      never : None ≡ Some next → ⊥
       never w = let z : ◌≡◌ {A = ℕ} 0 1 = cc in omega arith
 
-  pub write_unfit : 128 ≤ v → written_at (v / 128) (at + 1) s ≡ NoRoom
-      → (written_at v at s ≡ NoRoom) × (bytes_after v at s ≡ s) × (bytes_after (v / 128) (at + 1) s ≡ s)
+  pub write_unfit : 128 ≤ v → written_at (v / 128) (at + 1) s ≡ None
+      → (written_at v at s ≡ None) × (bytes_after v at s ≡ s) × (bytes_after (v / 128) (at + 1) s ≡ s)
   write_unfit k w =
       ⊎_elim
       (λ e. absurd (never (rw e at w)))
@@ -112,5 +110,5 @@ module _ (s : List ℕ) (at v : ℕ) where
       (rw (same_room k e), rw (same_room k e), rw e))
       (decided (leb (at + 1 + length (encode (v / 128))) (length s)))
     where
-      never : {n : ℕ} → Next n ≡ NoRoom → ⊥
+      never : {n : ℕ} → Some n ≡ None → ⊥
       never w = let z : ◌≡◌ {A = ℕ} 0 1 = cc in omega arith

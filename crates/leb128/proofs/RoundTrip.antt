@@ -13,8 +13,10 @@ use lib.Seq.{length-take-le, drop_at, take_at, drop-drop, get_or-drop}
 use borrow.Author.Tests.{lt-ltb, le-ltb, ne_eqb, le-leb, ltb-true, leb-true, eqb-false}
 use Rattle.buffers.specs.Ranges.{range, replace}
 use Rattle.units.proofs.Cases.{below_or, decided}
-use Rattle.leb128.specs.declared.Read.TheVariants.{Number, Malformed}
-use Rattle.leb128.specs.declared.Written.TheVariants.{Next, NoRoom}
+use Rattle.std.specs.Prelude.{Some, None, Result, Ok, Err}
+use Rattle.leb128.specs.declared.Number.{Number}
+use Rattle.leb128.specs.declared.ReadError.{ReadError}
+use Rattle.leb128.specs.declared.ReadError.TheVariants.{Malformed}
 use Rattle.leb128.specs.Groups.{groups, encode, Decoded, found, cut_short, not_shortest, before, decode, bounded, read_at, written_at, bytes_after}
 use Rattle.leb128.proofs.Encode.{encode_small, encode_large, encode_some}
 
@@ -104,11 +106,15 @@ encoded (b ∷ bs) bytes =
 
 -- ---- at an offset
 
+-- a number and the offset past it, as the reader answers them
+abbrev pub read_as : ℕ → ℕ → Result Number ReadError
+read_as value next = Ok (record { value = value; next = next })
+
 -- the encoding of a number below 2^32 stands at the offset, and ends at next
 abbrev pub Stands : List ℕ → ℕ → ℕ → ℕ → Type 0
 Stands s at value next = (value < 2 ^ 32) × (range at (length (encode value)) s ≡ encode value) × (next ≡ at + length (encode value))
 
-reads : (s : List ℕ) (at value next : ℕ) → Stands s at value next → read_at s at ≡ Number value next
+reads : (s : List ℕ) (at value next : ℕ) → Stands s at value next → read_at s at ≡ read_as value next
 unfolding read_at
 reads s at value next h =
     let size = length (encode value) in
@@ -116,9 +122,9 @@ reads s at value next h =
     sym (take-append-drop size (drop at s)) ∙ ap (λ (t : List ℕ). t ++ drop size (drop at s)) h.1 in
     ap (λ (t : List ℕ). bounded at (decode t)) split
     ∙ ap (bounded at) (decode_encode value (drop size (drop at s)))
-    ∙ rw (lt-ltb value (2 ^ 32) h.0) (ap (λ (n : ℕ). Number value n) (sym h.2))
+    ∙ rw (lt-ltb value (2 ^ 32) h.0) (ap (read_as value) (sym h.2))
 
-stands : (s : List ℕ) (at value next : ℕ) (r : Decoded) → Encoded (drop at s) r → bounded at r ≡ Number value next → Stands s at value next
+stands : (s : List ℕ) (at value next : ℕ) (r : Decoded) → Encoded (drop at s) r → bounded at r ≡ read_as value next → Stands s at value next
 unfolding Encoded
 stands s at value next cut_short x e = let z : ◌≡◌ {A = ℕ} 0 1 = cc in absurd (omega arith)
 stands s at value next not_shortest x e = let z : ◌≡◌ {A = ℕ} 0 1 = cc in absurd (omega arith)
@@ -128,16 +134,17 @@ stands s at value next (found n size) x e =
     (λ (t : ltb n (2 ^ 32) ≡ false). absurd (never (rw t at e)))
     (decided (ltb n (2 ^ 32)))
   where
-    never : Malformed ≡ Number value next → ⊥
+    never : Err Malformed ≡ read_as value next → ⊥
     never e = let z : ◌≡◌ {A = ℕ} 0 1 = cc in omega arith
 
-    here : Stands s at n (at + size) → Number n (at + size) ≡ Number value next → Stands s at value next
+    here : Stands s at n (at + size) → read_as n (at + size) ≡ read_as value next → Stands s at value next
     here p e =
-        let v : n ≡ value = cc in
-        let k : at + size ≡ next = cc in
-        rw (← v, ← k) p
+        let a : Number = record { value = n; next = at + size } in
+        let b : Number = record { value = value; next = next } in
+        let r : a ≡ b = cc in
+        rw (← (ap (λ (x : Number). x.value) r), ← (ap (λ (x : Number). x.next) r)) p
 
-    at_value : ltb n (2 ^ 32) ≡ true → Number n (at + size) ≡ Number value next → Stands s at value next
+    at_value : ltb n (2 ^ 32) ≡ true → read_as n (at + size) ≡ read_as value next → Stands s at value next
     at_value t e =
         here (
           ltb-true n (2 ^ 32) t,
@@ -147,7 +154,7 @@ stands s at value next (found n size) x e =
         e
 
 -- the reader accepts exactly the encodings of numbers below 2^32, and gives the number and the next offset
-pub accepts : (s : List ℕ) → ((i : ℕ) → get_or s i 0 < 256) → (at value next : ℕ) → (read_at s at ≡ Number value next) ↔ Stands s at value next
+pub accepts : (s : List ℕ) → ((i : ℕ) → get_or s i 0 < 256) → (at value next : ℕ) → (read_at s at ≡ read_as value next) ↔ Stands s at value next
 unfolding read_at
 accepts s bytes at value next = (
   λ e. stands s at value next (decode (drop at s)) (encoded (drop at s) (λ i. subst (λ (b : ℕ). b < 256) (sym (get_or-drop at s i 0)) (bytes (at + i)))) e,
@@ -155,17 +162,17 @@ accepts s bytes at value next = (
 )
 
 -- what was written is read back
-pub written_is_read : (s : List ℕ) (at value next : ℕ) → value < 2 ^ 32 → written_at value at s ≡ Next next → read_at (bytes_after value at s) at ≡ Number value next
+pub written_is_read : (s : List ℕ) (at value next : ℕ) → value < 2 ^ 32 → written_at value at s ≡ Some next → read_at (bytes_after value at s) at ≡ read_as value next
 written_is_read s at value next h w =
     ⊎_elim
     (λ (t : leb (at + length (encode value)) (length s) ≡ true). rw t (reads (replace at (encode value) s) at value next (h, there (leb-true _ _ t), end (rw t at w))))
     (λ (t : leb (at + length (encode value)) (length s) ≡ false). absurd (never (rw t at w)))
     (decided (leb (at + length (encode value)) (length s)))
   where
-    never : NoRoom ≡ Next next → ⊥
+    never : None ≡ Some next → ⊥
     never e = let z : ◌≡◌ {A = ℕ} 0 1 = cc in omega arith
 
-    end : Next (at + length (encode value)) ≡ Next next → next ≡ at + length (encode value)
+    end : Some (at + length (encode value)) ≡ Some next → next ≡ at + length (encode value)
     end e = cc
 
     there : at + length (encode value) ≤ length s → range at (length (encode value)) (replace at (encode value) s) ≡ encode value
@@ -174,15 +181,15 @@ written_is_read s at value next h w =
         ∙ take_at (encode value) (drop (at + length (encode value)) s) (length (encode value)) refl
 
 -- what was read is written back over its own bytes
-pub read_is_written : (s : List ℕ) → ((i : ℕ) → get_or s i 0 < 256) → (at value next : ℕ) → read_at s at ≡ Number value next
-    → (written_at value at s ≡ Next next) × (bytes_after value at s ≡ s)
+pub read_is_written : (s : List ℕ) → ((i : ℕ) → get_or s i 0 < 256) → (at value next : ℕ) → read_at s at ≡ read_as value next
+    → (written_at value at s ≡ Some next) × (bytes_after value at s ≡ s)
 read_is_written s bytes at value next e =
     let h : Stands s at value next = (accepts s bytes at value next).0 e in
     let size = length (encode value) in
     let long : length (range at size s) ≡ size = ap length h.1 in
     let fits : at + size ≤ length s = omega (arith, encode_some value, simp (length-take, length-drop) at long) in
     let room : leb (at + size) (length s) ≡ true = le-leb (at + size) (length s) fits in (
-      rw room (ap Next (sym h.2)),
+      rw room (ap (λ (n : ℕ). Some n) (sym h.2)),
       rw room
           (ap (λ (t : List ℕ). take at s ++ (t ++ drop (at + size) s)) (sym h.1)
           ∙ ap (λ (t : List ℕ). take at s ++ (take size (drop at s) ++ t)) (sym (drop-drop size at s))

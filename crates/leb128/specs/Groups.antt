@@ -1,10 +1,9 @@
 -- Numbers in seven-bit groups: document 01, "Bench program".
-use Rattle.std.specs.Prelude.{ℕ, zero, suc, ◌+◌, ◌*◌, ◌/◌, ◌%◌, ◌^◌, cond, List, [], ◌∷◌, ltb, leb, eqb, length, drop}
+use Rattle.std.specs.Prelude.{ℕ, zero, suc, ◌+◌, ◌*◌, ◌/◌, ◌%◌, ◌^◌, cond, List, [], ◌∷◌, ltb, leb, eqb, length, drop, Option, Some, None, Result, Ok, Err}
 use Rattle.buffers.specs.Ranges.{replace}
-use Rattle.leb128.specs.declared.Read.{Read}
-use Rattle.leb128.specs.declared.Read.TheVariants.{Number, Short, Malformed}
-use Rattle.leb128.specs.declared.Written.{Written}
-use Rattle.leb128.specs.declared.Written.TheVariants.{Next, NoRoom}
+use Rattle.leb128.specs.declared.Number.{Number}
+use Rattle.leb128.specs.declared.ReadError.{ReadError}
+use Rattle.leb128.specs.declared.ReadError.TheVariants.{Short, Malformed}
 
 -- "a number below 128 is one byte; a larger one is its low seven bits with the top bit set, followed by the number made of the remaining bits".
 -- The first argument bounds the groups that may follow
@@ -34,18 +33,18 @@ decode [] = cut_short
 decode (b ∷ bs) = cond (ltb b 128) (found b 1) (before (b % 128) (decode bs))
 
 -- "values below 2^32"; the answer has the offset past the number
-abbrev pub bounded : ℕ → Decoded → Read
-bounded at (found value size) = cond (ltb value (2 ^ 32)) (Number value (at + size)) Malformed
-bounded at cut_short = Short
-bounded at not_shortest = Malformed
+abbrev pub bounded : ℕ → Decoded → Result Number ReadError
+bounded at (found value size) = cond (ltb value (2 ^ 32)) (Ok (record { value = value; next = at + size })) (Err Malformed)
+bounded at cut_short = Err Short
+bounded at not_shortest = Err Malformed
 
 -- what stands at an offset
-unfoldable pub read_at : List ℕ → ℕ → Read
+unfoldable pub read_at : List ℕ → ℕ → Result Number ReadError
 read_at bytes at = bounded at (decode (drop at bytes))
 
 -- a number is written where all of its bytes fit, and else nothing is
-abbrev pub written_at : ℕ → ℕ → List ℕ → Written
-written_at value at bytes = cond (leb (at + length (encode value)) (length bytes)) (Next (at + length (encode value))) NoRoom
+abbrev pub written_at : ℕ → ℕ → List ℕ → Option ℕ
+written_at value at bytes = cond (leb (at + length (encode value)) (length bytes)) (Some (at + length (encode value))) None
 
 abbrev pub bytes_after : ℕ → ℕ → List ℕ → List ℕ
 bytes_after value at bytes = cond (leb (at + length (encode value)) (length bytes)) (replace at (encode value) bytes) bytes

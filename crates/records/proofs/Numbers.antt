@@ -6,14 +6,15 @@ use native.Mathlib.Omega.{arith}
 use borrow.Author.Tests.{le-leb}
 use lib.ListN.{set}
 use Rattle.leb128.specs.Groups.{read_at}
-use Rattle.leb128.specs.declared.Read.{Read}
-use Rattle.leb128.specs.declared.Read.TheVariants.{Number}
+use Rattle.std.specs.Prelude.{Option, Result, Ok}
+use Rattle.leb128.specs.declared.Number.{Number}
+use Rattle.leb128.specs.declared.ReadError.{ReadError}
 use Rattle.records.specs.declared.Item.{Item}
 use Rattle.records.specs.Records.{with_number, up_to, values_at}
 
-module _ (rest : ℕ → ℕ → Item) where
-  pub number_read : {value next : ℕ} {r : Read} → Number value next ≡ r → with_number r rest ≡ rest value next
-  number_read reads = ap (λ (x : Read). with_number x rest) (sym reads)
+module _ (rest : ℕ → ℕ → Option Item) where
+  pub number_read : {n : Number} {r : Result Number ReadError} → Ok n ≡ r → with_number r rest ≡ rest n.value n.next
+  number_read reads = ap (λ (x : Result Number ReadError). with_number x rest) (sym reads)
 
   pub within : (most value next : ℕ) → value ≤ most → up_to most rest value next ≡ rest value next
   unfolding up_to

@@ -4,152 +4,98 @@
 #![tactic(auto)]
 
 ghost use Rattle.std.specs.Prelude.{◌≡◌, ◌≤◌, replicate};
-ghost use Rattle.records.specs.Records.{plain, bad, values_at, command_at, fill_at, record_at};
+ghost use Rattle.records.specs.Records.{plain, values_at, command_at, fill_at, record_at};
 
-use leb128::{Read, read_at};
+use leb128::read_at;
 
-// What a record is.
-#[derive(Clone, Copy)]
-pub enum Kind {
-    Command,
-    Fill,
+// What a record asks for.
+#[derive(Clone, Copy, PartialEq, Eq)]
+pub enum Record {
+    // A command, with the registers that it is written to.
+    Command { registers: [u8; 16] },
+    // The host fills a range of the window.
+    Fill { offset: u32, count: u32, value: u8 },
     Suspend,
     Resume,
     ResumeChanged,
-    // It breaks a rule.
-    Malformed,
 }
 
-// A record: its kind, the registers of a command, the numbers of a fill, and the offset past it.
-#[derive(Clone, Copy)]
+// A record that was read, and the offset past it.
+#[derive(Clone, Copy, PartialEq, Eq)]
 pub struct Item {
-    pub kind: Kind,
-    pub registers: [u8; 16],
-    pub offset: u32,
-    pub count: u32,
-    pub value: u8,
+    pub body: Record,
     pub next: usize,
 }
 
-// The record whose first byte stands at offset at.
+// The record whose first byte stands at offset at; none where it breaks a rule.
 #[tactic(auto, unfolding(crate::specs::Records::record_at))]
-pub fn read_record(bytes: &[u8], at: usize) -> Item
+pub fn read_record(bytes: &[u8], at: usize) -> Option<Item>
     ensures { result ≡ record_at bytes.now at }
 {
-    let kind = read_at(bytes, at);
-    let Read::Number { value, next } = kind else {
-        return bad_record();
-    };
-    match value {
+    let kind = read_at(bytes, at).ok()?;
+    let next = kind.next;
+    match kind.value {
         0 => command_at(bytes, next),
         1 => fill_at(bytes, next),
-        2 => plain_record(Kind::Suspend, next),
-        3 => plain_record(Kind::Resume, next),
-        4 => plain_record(Kind::ResumeChanged, next),
-        _ => bad_record(),
+        2 => plain_record(Record::Suspend, next),
+        3 => plain_record(Record::Resume, next),
+        4 => plain_record(Record::ResumeChanged, next),
+        _ => None,
     }
 }
 
 // A record without numbers.
-fn plain_record(kind: Kind, next: usize) -> Item
-    ensures { result ≡ plain kind next }
+fn plain_record(body: Record, next: usize) -> Option<Item>
+    ensures { result ≡ plain body next }
 {
-    Item {
-        kind,
-        registers: [0; 16],
-        offset: 0,
-        count: 0,
-        value: 0,
-        next,
-    }
-}
-
-fn bad_record() -> Item
-    ensures { result ≡ bad }
-{
-    plain_record(Kind::Malformed, 0)
+    Some(Item { body, next })
 }
 
 // The rest of a command: the count of its values, and they.
 #[tactic(auto, unfolding(crate::specs::Records::up_to))]
-fn command_at(bytes: &[u8], at: usize) -> Item
+fn command_at(bytes: &[u8], at: usize) -> Option<Item>
     ensures { result ≡ command_at bytes.now at }
 {
-    let count = read_at(bytes, at);
-    let Read::Number { value, next } = count else {
-        return bad_record();
-    };
-    if 13 < value {
-        return bad_record();
+    let count = read_at(bytes, at).ok()?;
+    if 13 < count.value {
+        return None;
     }
-    values_at(bytes, value as usize, next)
+    values_at(bytes, count.value as usize, count.next)
 }
 
 // So many values, for registers 0 onward.
 #[tactic(auto, unfolding(crate::specs::Records::up_to))]
-fn values_at(bytes: &[u8], count: usize, start: usize) -> Item
+fn values_at(bytes: &[u8], count: usize, start: usize) -> Option<Item>
     requires { count ≤ 13 }
     ensures { result ≡ values_at bytes.now count 0 (replicate 16 0) start }
 {
     let mut registers = [0u8; 16];
-    let mut at = start;
-    let mut i = 0;
-    while i < count {
-        let register = read_at(bytes, at);
-        let Read::Number { value, next } = register else {
-            return bad_record();
-        };
-        if 255 < value {
-            return bad_record();
-        }
-        registers[i] = value as u8;
-        at = next;
-        i += 1;
+    let mut next = start;
+    for i in 0..count {
+        let register = read_at(bytes, next).ok()?;
+        registers[i] = u8::try_from(register.value).ok()?;
+        next = register.next;
     }
-    Item {
-        kind: Kind::Command,
-        registers,
-        offset: 0,
-        count: 0,
-        value: 0,
-        next: at,
-    }
+    Some(Item {
+        body: Record::Command { registers },
+        next,
+    })
 }
 
 // The rest of a fill: offset, count and value.
 #[tactic(auto, unfolding(crate::specs::Records::up_to))]
-fn fill_at(bytes: &[u8], at: usize) -> Item
+fn fill_at(bytes: &[u8], at: usize) -> Option<Item>
     ensures { result ≡ fill_at bytes.now at }
 {
-    let first = read_at(bytes, at);
-    let Read::Number {
-        value: offset,
-        next: then,
-    } = first
-    else {
-        return bad_record();
-    };
-    let second = read_at(bytes, then);
-    let Read::Number {
-        value: count,
-        next: last,
-    } = second
-    else {
-        return bad_record();
-    };
-    let third = read_at(bytes, last);
-    let Read::Number { value, next } = third else {
-        return bad_record();
-    };
-    if 255 < value {
-        return bad_record();
-    }
-    Item {
-        kind: Kind::Fill,
-        registers: [0; 16],
-        offset,
-        count,
-        value: value as u8,
-        next,
-    }
+    let offset = read_at(bytes, at).ok()?;
+    let count = read_at(bytes, offset.next).ok()?;
+    let value = read_at(bytes, count.next).ok()?;
+    Some(Item {
+        body: Record::Fill {
+            offset: offset.value,
+            count: count.value,
+            value: u8::try_from(value.value).ok()?,
+        },
+        next: value.next,
+    })
 }

@@ -1,16 +1,17 @@
 -- What a record does: document 01, "Bench program".
-use Rattle.std.specs.Prelude.{ℕ, ◌+◌, min, Bool, true, false, cond, ◌&&◌, List, leb, length, replicate}
+use Rattle.std.specs.Prelude.{ℕ, ◌+◌, min, Bool, true, false, cond, ◌&&◌, List, leb, length, replicate, Option, Some, None}
 use Rattle.units.specs.Units.{to_bytes}
 use Rattle.buffers.specs.Ranges.{replace}
 use Rattle.session.specs.declared.Session.{Session}
+use Rattle.session.specs.declared.suspension.Suspension.{Suspension}
 use Rattle.session.specs.Suspension.{suspended, resumed, resumed_changed}
 use Rattle.session.specs.Machine.{Setup, Machine, lent, holding}
 use Rattle.refusals.specs.Refusals.{is_write}
 use Rattle.mailbox.specs.Commands.{Outcome}
 use Rattle.mailbox.specs.Mediator.{mediate}
 use Rattle.records.specs.declared.Item.{Item}
-use Rattle.records.specs.declared.Kind.{Kind}
-use Rattle.records.specs.declared.Kind.TheVariants.{Command, Fill, Suspend, Resume, ResumeChanged, Malformed}
+use Rattle.records.specs.declared.Record.{Record}
+use Rattle.records.specs.declared.Record.TheVariants.{Command, Fill, Suspend, Resume, ResumeChanged}
 use Rattle.script.specs.declared.Served.{Served}
 
 -- ---- the host's fill
@@ -30,34 +31,51 @@ filled s offset count value memory =
 abbrev pub none_worn : List ℕ
 none_worn = replicate 4 0
 
--- what is left: whether the rules are kept, the registers, and the session and both buffers
+-- what is left: whether the rules are kept, the registers that answer, and the session and both buffers
 pub record Effect : Type 0 where
   pub good : Bool
-  pub registers : List ℕ
+  pub answer : Option (List ℕ)
   pub machine : Machine
 
--- as the code has them
-abbrev pub effected : Served → List ℕ → List ℕ → Effect
-effected r flash memory = record { good = r.good; registers = r.registers; machine = lent r.session flash none_worn memory }
-
 -- what a record leaves
-abbrev pub leaves : Bool → List ℕ → Machine → Effect
-leaves good registers m = record { good = good; registers = registers; machine = m }
+abbrev pub leaves : Bool → Option (List ℕ) → Machine → Effect
+leaves good answer m = record { good = good; answer = answer; machine = m }
+
+-- what breaks a rule changes nothing
+abbrev pub refused : Machine → Effect
+refused m = leaves false None m
+
+-- as the code has them: where it answers none, the session is what it was
+abbrev pub effected : Session → Option Served → List ℕ → List ℕ → Effect
+effected before None flash memory = refused (lent before flash none_worn memory)
+effected before (Some r) flash memory = leaves true r.answer (lent r.session flash none_worn memory)
+
+-- a session, and no registers that answer
+abbrev pub silent : Session → Served
+silent s = record { session = s; answer = None }
 
 -- a command: "its 16 registers afterwards"
 abbrev pub commanded : Outcome → Effect
-commanded o = leaves true o.registers o.machine
+commanded o = leaves true (Some o.registers) o.machine
 
--- "is a command; .. is the host filling ..; 2 suspend; 3 resume; 4 resume with changed flash"; "A record that breaks these rules" does nothing
-abbrev pub effect_of : Kind → Setup → Item → Machine → Effect
-effect_of Command setup item m = commanded (mediate setup item.registers m)
-effect_of Fill setup item m =
-    leaves (fill_allowed m.session (length m.memory) item.offset item.count) item.registers
-    (lent m.session m.flash m.worn (filled m.session item.offset item.count item.value m.memory))
-effect_of Suspend setup item m = leaves true item.registers (holding (suspended m.session).session m)
-effect_of Resume setup item m = leaves true item.registers (holding (resumed m.session).session m)
-effect_of ResumeChanged setup item m = leaves true item.registers (holding (resumed_changed m.session).session m)
-effect_of Malformed setup item m = leaves false item.registers m
+-- suspend or resume, whether it answered yes or no
+abbrev pub moved : Machine → Suspension → Effect
+moved m suspension = leaves true None (holding suspension.session m)
 
-abbrev pub effect : Setup → Item → Machine → Effect
-effect setup item m = effect_of item.kind setup item m
+-- "is a command; .. is the host filling ..; 2 suspend; 3 resume; 4 resume with changed flash"
+abbrev pub effect_of : Record → Setup → Machine → Effect
+effect_of (Command registers) setup m = commanded (mediate setup registers m)
+effect_of (Fill offset count value) setup m =
+    leaves (fill_allowed m.session (length m.memory) offset count) None
+    (lent m.session m.flash m.worn (filled m.session offset count value m.memory))
+effect_of Suspend setup m = moved m (suspended m.session)
+effect_of Resume setup m = moved m (resumed m.session)
+effect_of ResumeChanged setup m = moved m (resumed_changed m.session)
+
+abbrev pub effect : Setup → Record → Machine → Effect
+effect setup r m = effect_of r setup m
+
+-- what was read at an offset: "A record that breaks these rules" does nothing
+abbrev pub effect_read : Setup → Option Item → Machine → Effect
+effect_read setup None m = refused m
+effect_read setup (Some item) m = effect setup item.body m

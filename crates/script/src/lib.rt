@@ -3,115 +3,119 @@
 // Every record, every session and every buffer length gets an answer.
 #![tactic(auto)]
 
-ghost use Rattle.std.specs.Prelude.{◌≡◌, true, length};
+ghost use Rattle.std.specs.Prelude.{◌≡◌, length, IfSome};
+ghost use Rattle.std.specs.Option.{option_map};
 ghost use Rattle.session.specs.Machine.{set_up, lent};
-ghost use Rattle.refusals.specs.Refusals.{is_write};
-ghost use Rattle.script.specs.Effects.{none_worn, fill_allowed, filled, effected, effect};
+ghost use Rattle.script.specs.Effects.{none_worn, fill_allowed, filled, silent, effected, effect, effect_read};
+ghost use Rattle.records.specs.Records.{next_of, record_at};
 
-use buffers::fill;
-use mailbox::{Answer, command};
-use records::{Item, Kind};
+use mailbox::command;
+use records::{Record, read_record};
 use session::{Board, Session, Suspension, Window, resume, resume_changed, suspend};
 use units::Blocks;
 
-// What a record leaves: whether it keeps the rules, the session, and the registers, which are the
-// answer where it is a command.
+// What a record that keeps the rules leaves: the session, and the registers that answer a command.
 #[derive(Clone, Copy)]
 pub struct Served {
-    pub good: bool,
     pub session: Session,
-    pub registers: [u8; 16],
+    pub answer: Option<[u8; 16]>,
 }
 
-// Carries out a record. One that breaks a rule changes nothing. A command is lent the map of the bench's
-// chip, four good blocks, so that with a flash of another size it is refused.
-pub fn serve(
-    item: Item,
+// A record that was carried out, and the offset past it.
+#[derive(Clone, Copy)]
+pub struct Step {
+    pub served: Served,
+    pub next: usize,
+}
+
+// Carries out the record at an offset of the input; none where it breaks a rule, and then nothing is
+// changed.
+pub fn serve_at(
+    input: &[u8],
+    at: usize,
     session: Session,
     board: Board,
     flash: &mut [u8],
     memory: &mut [u8],
-) -> Served
-    ensures { effected result flash.new memory.new
-        ≡ effect (set_up board) item (lent session flash.old none_worn memory.old) }
+) -> Option<Step>
+    ensures effect { effected session (option_map (λ s. s.served) result) flash.new memory.new
+        ≡ effect_read (set_up board) (record_at input.now at) (lent session flash.old none_worn memory.old) }
+    ensures next { IfSome result (λ s. s.next ≡ next_of (record_at input.now at)) }
 {
-    let kind = item.kind;
-    let registers = item.registers;
-    match kind {
-        Kind::Command => {
-            // S = 4, and no block is worn
-            let worn = [0u8; 4];
-            answered(command(session, registers, board, flash, &worn, memory))
-        }
-        Kind::Fill => Served {
-            good: fill_window(session, memory, item.offset, item.count, item.value),
-            session,
-            registers,
-        },
-        Kind::Suspend => moved(suspend(session), registers),
-        Kind::Resume => moved(resume(session), registers),
-        Kind::ResumeChanged => moved(resume_changed(session), registers),
-        Kind::Malformed => Served {
-            good: false,
-            session,
-            registers,
-        },
-    }
+    let item = read_record(input, at)?;
+    let served = serve(item.body, session, board, flash, memory)?;
+    Some(Step {
+        served,
+        next: item.next,
+    })
 }
 
-fn answered(answer: Answer) -> Served
-    ensures { result ≡ record { good = true; session = answer.session; registers = answer.registers } }
+// Carries out a record; none where it breaks a rule, and then nothing is changed. A command is lent the
+// map of the bench's chip, four good blocks, so that with a flash of another size it is refused.
+pub fn serve(
+    body: Record,
+    session: Session,
+    board: Board,
+    flash: &mut [u8],
+    memory: &mut [u8],
+) -> Option<Served>
+    ensures { effected session result flash.new memory.new
+        ≡ effect (set_up board) body (lent session flash.old none_worn memory.old) }
 {
-    let session = answer.session;
-    let registers = answer.registers;
-    Served {
-        good: true,
-        session,
-        registers,
+    match body {
+        Record::Command { registers } => {
+            // S = 4, and no block is worn
+            let worn = [0u8; 4];
+            let answer = command(session, registers, board, flash, &worn, memory);
+            Some(Served {
+                session: answer.session,
+                answer: Some(answer.registers),
+            })
+        }
+        Record::Fill {
+            offset,
+            count,
+            value,
+        } => fill_window(session, memory, offset, count, value).then_some(silent(session)),
+        Record::Suspend => Some(moved(suspend(session))),
+        Record::Resume => Some(moved(resume(session))),
+        Record::ResumeChanged => Some(moved(resume_changed(session))),
     }
 }
 
 // Whether suspend or resume answered yes is not asked.
-fn moved(suspension: Suspension, registers: [u8; 16]) -> Served
-    ensures { result ≡ record { good = true; session = suspension.session; registers = registers } }
+fn moved(suspension: Suspension) -> Served
+    ensures { result ≡ silent suspension.session }
 {
-    let session = suspension.session;
+    silent(suspension.session)
+}
+
+// No command was asked, and no registers answer.
+fn silent(session: Session) -> Served
+    ensures { result ≡ silent session }
+{
     Served {
-        good: true,
         session,
-        registers,
+        answer: None,
     }
 }
 
 // The host fills a range of the active write window; the answer says whether it may. A refused fill
 // changes nothing.
 pub fn fill_window(session: Session, memory: &mut [u8], offset: u32, count: u32, value: u8) -> bool
-    ensures { (result ≡ fill_allowed session (length memory.old) offset count)
-        × (memory.new ≡ filled session offset count value memory.old) }
+    ensures allowed { result ≡ fill_allowed session (length memory.old) offset count }
+    ensures filled { memory.new ≡ filled session offset count value memory.old }
 {
-    let window = session.window;
-    if !is_write(window) {
+    if !matches!(session.window, Window::Write) {
         return false;
     }
-    let end = (offset as u64) + (count as u64);
-    if Blocks(session.size as u32).bytes().0 < end {
+    let end = u64::from(offset) + u64::from(count);
+    if Blocks(u32::from(session.size)).bytes().0 < end {
         return false;
     }
     if (memory.len() as u64) < end {
         return false;
     }
-    let first = offset as usize;
-    let last = end as usize;
-    fill(&mut memory[first..last], value);
+    memory[offset as usize..end as usize].fill(value);
     true
-}
-
-fn is_write(window: Window) -> bool
-    ensures { result ≡ is_write window }
-{
-    match window {
-        Window::Closed => false,
-        Window::Read => false,
-        Window::Write => true,
-    }
 }

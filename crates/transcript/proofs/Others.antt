@@ -1,25 +1,18 @@
--- Laws of the count of bytes other than FF.
-use mathlib.Core.Path.{◌≡◌}
+-- The count of bytes other than FF is std's count.
+use mathlib.Core.Path.{◌≡◌, refl}
+use mathlib.Core.Bool.{Bool, true, false, not, cond}
 use mathlib.Core.List.{List}
-use Prim.Native.Nat.{ℕ, ◌+◌, ◌≤◌, ◌<◌}
-use native.Mathlib.Numerals.{add-one}
-use lib.ListN.{length, get_or, drop, drop_of_length-le}
-use borrow.Author.Tests.{eq-eqb, ne_eqb}
-use lib.Seq.{drop-cons}
+use Prim.Native.Nat.{ℕ, ◌+◌}
+use native.Mathlib.Omega.{arith}
+use lib.Dec.{eqb}
+use Rattle.std.specs.List.{count_by}
+use Rattle.std.proofs.lemmas.List.Recursion.{is_count_by}
 use Rattle.transcript.specs.Text.{other_than_ff}
 
-module _ (xs : List ℕ) (i : ℕ) (inside : i < length xs) where
-  -- the byte at an offset counts one before those after it
-  pub others_more : (get_or xs i 0 ≡ 0xff → ⊥) → other_than_ff (drop i xs) ≡ 1 + other_than_ff (drop (i + 1) xs)
-  unfolding other_than_ff
-  others_more h = rw (drop-cons xs i 0 inside, ne_eqb (get_or xs i 0) 0xff h, add-one)
+one : (t : Bool) (n : ℕ) → cond t 0 1 + n ≡ cond (not t) (1 + n) n
+one true n = omega arith
+one false n = refl
 
-  -- and FF none
-  pub others_ff : get_or xs i 0 ≡ 0xff → other_than_ff (drop i xs) ≡ 0 + other_than_ff (drop (i + 1) xs)
-  unfolding other_than_ff
-  others_ff h = rw (drop-cons xs i 0 inside, eq-eqb (get_or xs i 0) 0xff h, add-one)
-
--- past the end there are none
-pub others_none : (xs : List ℕ) (i : ℕ) → length xs ≤ i → other_than_ff (drop i xs) ≡ 0
+pub others_counted : (xs : List ℕ) → other_than_ff xs ≡ count_by (λ b. not (eqb b 0xff)) xs
 unfolding other_than_ff
-others_none xs i h = rw (drop_of_length-le xs h)
+others_counted xs = is_count_by other_than_ff (λ b. not (eqb b 0xff)) refl (λ b bs. one (eqb b 0xff) (other_than_ff bs)) xs

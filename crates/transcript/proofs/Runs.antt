@@ -10,9 +10,8 @@ use lib.ListN.{length}
 use borrow.Author.Tests.{lt-ltb, le-ltb, ltb-true, ltb-false}
 use Rattle.units.proofs.Cases.{decided}
 use Rattle.session.specs.Machine.{Setup, Machine}
-use Rattle.records.specs.declared.Item.{Item}
-use Rattle.records.specs.Records.{record_at}
-use Rattle.script.specs.Effects.{Effect, effect}
+use Rattle.records.specs.Records.{next_of, record_at}
+use Rattle.script.specs.Effects.{Effect, effect_read}
 use Rattle.script.proofs.Progress.{moves_on}
 use Rattle.transcript.specs.Printing.{answer_text, bad_line}
 use Rattle.transcript.specs.Run.{Ran, ended, after, turned, run_from}
@@ -24,19 +23,24 @@ module _ (setup : Setup) (input : List ℕ) where
   run_none zero at m h = refl
   run_none (suc turns) at m h = rw (le-ltb at (length input) h)
 
+  -- what the record at an offset does, and the offset past it
+  abbrev pub at_record : ℕ → Machine → Effect
+  at_record at m = effect_read setup (record_at input at) m
+
+  abbrev pub past_record : ℕ → ℕ
+  past_record at = next_of (record_at input at)
+
   -- a record, and the rest
-  module _ (turns at : ℕ) (m : Machine) (item : Item) (read : item ≡ record_at input at) (here : at < length input) where
+  module _ (turns at : ℕ) (m : Machine) (here : at < length input) where
     abbrev e : Effect
-    e = effect setup item m
+    e = at_record at m
 
     abbrev goes : Ran
-    goes = after (answer_text item.kind e.registers) (run_from turns setup input item.next e.machine)
+    goes = after (answer_text e.answer) (run_from turns setup input (past_record at) e.machine)
 
     run_turn : run_from (suc turns) setup input at m ≡ cond e.good goes (ended (bad_line at) e.machine.flash)
     unfolding run_from
-    run_turn =
-        ap (λ (b : Bool). cond b (turned (run_from turns setup input (record_at input at).next) at (record_at input at).kind (effect setup (record_at input at) m)) (ended [] m.flash)) (lt-ltb at (length input) here)
-        ∙ ap (λ (i : Item). turned (run_from turns setup input i.next) at i.kind (effect setup i m)) (sym read)
+    run_turn = ap (λ (b : Bool). cond b (turned (run_from turns setup input (past_record at)) at e) (ended [] m.flash)) (lt-ltb at (length input) here)
 
     run_good : e.good ≡ true → run_from (suc turns) setup input at m ≡ goes
     run_good good = run_turn ∙ ap (λ (b : Bool). cond b goes (ended (bad_line at) e.machine.flash)) good
@@ -51,17 +55,14 @@ module _ (setup : Setup) (input : List ℕ) where
   turn_alike k n at m h same =
       ⊎_elim
       (λ (g : e.good ≡ true).
-      run_good k at m item refl h g
-      ∙ ap (after (answer_text item.kind e.registers)) (same item.next e.machine (moves_on input at item refl setup m g))
-      ∙ sym (run_good n at m item refl h g))
-      (λ (g : e.good ≡ false). run_bad k at m item refl h g ∙ sym (run_bad n at m item refl h g))
+      run_good k at m h g
+      ∙ ap (after (answer_text e.answer)) (same (past_record at) e.machine (moves_on input at (record_at input at) refl setup m g))
+      ∙ sym (run_good n at m h g))
+      (λ (g : e.good ≡ false). run_bad k at m h g ∙ sym (run_bad n at m h g))
       (decided e.good)
     where
-      item : Item
-      item = record_at input at
-
       e : Effect
-      e = effect setup item m
+      e = at_record at m
 
   -- a record has a byte at least, so that as many turns as bytes are enough
   enough : (k n at : ℕ) (m : Machine) → length input ≤ at + k → length input ≤ at + n
@@ -91,19 +92,15 @@ module _ (setup : Setup) (input : List ℕ) where
   one_turn : (at : ℕ) → at < length input → length input - at ≡ suc (length input - (at + 1))
   one_turn at h = omega arith
 
-  pub rest_good : (at : ℕ) (m : Machine) (item : Item) → item ≡ record_at input at → at < length input
-      → (effect setup item m).good ≡ true
-      → rest_from at m
-      ≡ after (answer_text item.kind (effect setup item m).registers)
-      (rest_from item.next (effect setup item m).machine)
-  rest_good at m item e h g =
-      let past = moves_on input at item e setup m g in
+  pub rest_good : (at : ℕ) (m : Machine) → at < length input → (at_record at m).good ≡ true
+      → rest_from at m ≡ after (answer_text (at_record at m).answer) (rest_from (past_record at) (at_record at m).machine)
+  rest_good at m h g =
+      let past = moves_on input at (record_at input at) refl setup m g in
       ap (λ (n : ℕ). run_from n setup input at m) (one_turn at h)
-      ∙ run_good (length input - (at + 1)) at m item e h g
-      ∙ ap (after (answer_text item.kind (effect setup item m).registers)) (enough (length input - (at + 1)) (length input - item.next) item.next (effect setup item m).machine (omega (arith, past)) (omega (arith, past)))
+      ∙ run_good (length input - (at + 1)) at m h g
+      ∙ ap (after (answer_text (at_record at m).answer)) (enough (length input - (at + 1)) (length input - past_record at) (past_record at) (at_record at m).machine (omega (arith, past)) (omega (arith, past)))
 
-  pub rest_bad : (at : ℕ) (m : Machine) (item : Item) → item ≡ record_at input at → at < length input
-      → (effect setup item m).good ≡ false
-      → rest_from at m ≡ ended (bad_line at) (effect setup item m).machine.flash
-  rest_bad at m item e h g =
-      ap (λ (n : ℕ). run_from n setup input at m) (one_turn at h) ∙ run_bad (length input - (at + 1)) at m item e h g
+  pub rest_bad : (at : ℕ) (m : Machine) → at < length input → (at_record at m).good ≡ false
+      → rest_from at m ≡ ended (bad_line at) (at_record at m).machine.flash
+  rest_bad at m h g =
+      ap (λ (n : ℕ). run_from n setup input at m) (one_turn at h) ∙ run_bad (length input - (at + 1)) at m h g

@@ -6,7 +6,10 @@ use native.Mathlib.Omega.{arith}
 use native.Mathlib.Numerals.{add-one}
 use lib.ListN.{length, get_or, set, take, drop, drop_of_length-le, length-append, length-set}
 use lib.Seq.{drop-cons, take-suc-set}
-use Rattle.transcript.specs.Printing.{written}
+use Rattle.std.specs.Prelude.{Option, None}
+use Rattle.transcript.specs.declared.printing.Printed.{Printed}
+use Rattle.transcript.specs.Printing.{written, answer_text}
+use Rattle.transcript.specs.Puts.{Puts}
 
 -- the next byte of a part, and the bytes behind it
 pub written_more : (at i : ℕ) (part text : List ℕ) → i < length part
@@ -70,54 +73,57 @@ written_front xs text h = ap (λ (n : ℕ). take n (written 0 xs text)) front �
     front : length xs ≡ 0 + length xs
     front = omega arith
 
--- what a call leaves that puts bytes from a place on: the place past them, and the text
-abbrev pub Put : ℕ → List ℕ → List ℕ → ℕ → List ℕ → Type 0
-Put at xs text end after = (end ≡ at + length xs) × (after ≡ written at xs text)
-
--- from the front on
-pub at_front : (end n : ℕ) → end ≡ n → end ≡ 0 + n
-at_front end n e = omega arith
-
-pub from_front : (end n : ℕ) → end ≡ 0 + n → end ≡ n
-from_front end n e = omega arith
-
--- two such calls, one behind the other
-pub joined : (at middle end : ℕ) (xs ys before between after : List ℕ) → Put at xs before middle between → Put middle ys between end after
-    → Put at (xs ++ ys) before end after
-joined at middle end xs ys before between after p q = (
-  places (length xs) (length ys) (length (xs ++ ys)) p.0 q.0 (length-append xs ys),
-  q.1 ∙ ap (written middle ys) p.1 ∙ ap (λ (n : ℕ). written n ys (written at xs before)) p.0 ∙ sym (written_append at xs ys before),
-)
+-- two calls, one behind the other
+pub joined : {before between after : Printed} {xs ys : List ℕ} → Puts before xs between → Puts between ys after → Puts before (xs ++ ys) after
+joined {before} {between} {after} {xs} {ys} p q = record {
+  end = places (length xs) (length ys) (length (xs ++ ys)) before.end between.end after.end p.end q.end (length-append xs ys);
+  text = q.text ∙ ap (written between.end ys) p.text ∙ ap (λ (n : ℕ). written n ys (written before.end xs before.text.now)) p.end ∙ sym (written_append before.end xs ys before.text.now);
+  same_buffer = q.same_buffer ∙ p.same_buffer;
+}
   where
-    places : (a b n : ℕ) → middle ≡ at + a → end ≡ middle + b → n ≡ a + b → end ≡ at + n
-    places a b n h k e = omega arith
+    places : (a b n at middle end : ℕ) → middle ≡ at + a → end ≡ middle + b → n ≡ a + b → end ≡ at + n
+    places a b n at middle end h k e = omega arith
 
--- ---- what is left of a text, from a place on, so that it ends as the whole text written at once
-abbrev pub Left : ℕ → List ℕ → List ℕ → ℕ → List ℕ → List ℕ → Type 0
-Left end rest text at whole before = (end + length rest ≡ at + length whole) × (written end rest text ≡ written at whole before)
+-- the same bytes, told otherwise
+pub puts_as : {before after : Printed} {xs ys : List ℕ} → xs ≡ ys → Puts before xs after → Puts before ys after
+puts_as {before} {after} e p = subst (λ (t : List ℕ). Puts before t after) e p
 
-module _ (at : ℕ) (whole before : List ℕ) where
-  pub left_all_lem : Left at whole before at whole before
-  left_all_lem = (refl, refl)
+-- none are put where no command was answered
+pub puts_none : (answer : Option (List ℕ)) (p : Printed) → answer ≡ None → Puts p (answer_text answer) p
+puts_none answer p e = rw e (record { end = omega arith; text = sym (written_empty p.end p.text.now); same_buffer = refl })
+
+-- ---- what is left of a text, so that it ends as the whole text put at once
+pub record Left (before : Printed) (whole : List ℕ) (now : Printed) (rest : List ℕ) : Type 0 where
+  pub end : now.end + length rest ≡ before.end + length whole
+  pub text : written now.end rest now.text.now ≡ written before.end whole before.text.now
+  pub same_buffer : now.text.ghost_name ≡ before.text.ghost_name
+
+module _ {before : Printed} {whole : List ℕ} where
+  pub left_all_lem : Left before whole before whole
+  left_all_lem = record { end = refl; text = refl; same_buffer = refl }
 
   -- the first part of it is put
-  pub left_put : (end : ℕ) (part rest text : List ℕ) (next : ℕ) (after : List ℕ) → Left end (part ++ rest) text at whole before
-      → Put end part text next after → Left next rest after at whole before
-  left_put end part rest text next after l p = (
-    places (length part) (length rest) (length (part ++ rest)) (at + length whole) p.0 l.0 (length-append part rest),
-    ap (written next rest) p.1 ∙ ap (λ (n : ℕ). written n rest (written end part text)) p.0 ∙ sym (written_append end part rest text) ∙ l.1,
-  )
+  pub left_put : {now : Printed} {part rest : List ℕ} {next : Printed} → Left before whole now (part ++ rest) → Puts now part next → Left before whole next rest
+  left_put {now} {part} {rest} {next} l p = record {
+    end = places (length part) (length rest) (length (part ++ rest)) (before.end + length whole) now.end next.end p.end l.end (length-append part rest);
+    text = ap (written next.end rest) p.text ∙ ap (λ (n : ℕ). written n rest (written now.end part now.text.now)) p.end ∙ sym (written_append now.end part rest now.text.now) ∙ l.text;
+    same_buffer = p.same_buffer ∙ l.same_buffer;
+  }
     where
-      places : (a b n w : ℕ) → next ≡ end + a → end + n ≡ w → n ≡ a + b → next + b ≡ w
-      places a b n w h k e = omega arith
+      places : (a b n w end next : ℕ) → next ≡ end + a → end + n ≡ w → n ≡ a + b → next + b ≡ w
+      places a b n w end next h k e = omega arith
 
   -- the same text, told otherwise
-  pub left_as : (end : ℕ) (rest rest' text : List ℕ) → rest ≡ rest' → Left end rest text at whole before → Left end rest' text at whole before
-  left_as end rest rest' text e l = subst (λ (t : List ℕ). Left end t text at whole before) e l
+  pub left_as : {now : Printed} {rest rest' : List ℕ} → rest ≡ rest' → Left before whole now rest → Left before whole now rest'
+  left_as {now} e l = subst (λ (t : List ℕ). Left before whole now t) e l
 
   -- nothing is left
-  pub left_none : (end : ℕ) (text : List ℕ) → Left end [] text at whole before → Put at whole before end text
-  left_none end text l = (ends (at + length whole) l.0, sym (written_empty end text) ∙ l.1)
+  pub left_none : {now : Printed} → Left before whole now [] → Puts before whole now
+  left_none {now} l = record {
+    end = ends (before.end + length whole) now.end l.end;
+    text = sym (written_empty now.end now.text.now) ∙ l.text;
+    same_buffer = l.same_buffer;
+  }
     where
-      ends : (w : ℕ) → end + 0 ≡ w → end ≡ w
-      ends w e = omega arith
+      ends : (w end : ℕ) → end + 0 ≡ w → end ≡ w
+      ends w end e = omega arith

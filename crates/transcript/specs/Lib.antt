@@ -1,3 +1,4 @@
 pub mod Printing
+pub mod Puts
 pub mod Run
 pub mod Text

@@ -1,9 +1,7 @@
 -- The text that the bench program prints: document 01, "Bench program".
-use Rattle.std.specs.Prelude.{ℕ, zero, suc, ◌+◌, ◌/◌, ◌%◌, Bool, true, false, cond, List, [], ◌∷◌, ◌++◌, ltb, set}
+use Rattle.std.specs.Prelude.{ℕ, zero, suc, ◌+◌, ◌/◌, ◌%◌, cond, List, [], ◌∷◌, ◌++◌, ltb, set, Option, Some, None}
 use Rattle.buffers.specs.Ranges.{range}
 use Rattle.units.specs.Units.{block_bytes, to_bytes}
-use Rattle.records.specs.declared.Kind.{Kind}
-use Rattle.records.specs.declared.Kind.TheVariants.{Command, Fill, Suspend, Resume, ResumeChanged, Malformed}
 use Rattle.transcript.specs.Text.{register_line, other_than_ff}
 
 -- bytes written into a text from a place on, each where there is room
@@ -32,16 +30,9 @@ abbrev pub too_long : List ℕ
 too_long = 0x74 ∷ 0x6f ∷ 0x6f ∷ 0x20 ∷ 0x6c ∷ 0x6f ∷ 0x6e ∷ 0x67 ∷ 10 ∷ []
 
 -- "Each command prints its 16 registers afterwards"; the other records print nothing
-abbrev pub is_command : Kind → Bool
-is_command Command = true
-is_command Fill = false
-is_command Suspend = false
-is_command Resume = false
-is_command ResumeChanged = false
-is_command Malformed = false
-
-abbrev pub answer_text : Kind → List ℕ → List ℕ
-answer_text kind registers = cond (is_command kind) (register_line registers) []
+abbrev pub answer_text : Option (List ℕ) → List ℕ
+answer_text (Some registers) = register_line registers
+answer_text None = []
 
 -- "the decimal count of bytes other than FF, each after one space"
 abbrev pub count_text : ℕ → List ℕ → List ℕ

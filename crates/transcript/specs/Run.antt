@@ -3,9 +3,8 @@ use Rattle.std.specs.Prelude.{ℕ, zero, suc, cond, List, [], ◌++◌, ltb, len
 use Rattle.units.specs.Units.{to_bytes}
 use Rattle.session.specs.Machine.{Setup, set_up, Machine, lent}
 use Rattle.session.specs.Record.{fresh}
-use Rattle.records.specs.declared.Kind.{Kind}
-use Rattle.records.specs.Records.{record_at}
-use Rattle.script.specs.Effects.{none_worn, Effect, effect}
+use Rattle.records.specs.Records.{next_of, record_at}
+use Rattle.script.specs.Effects.{none_worn, Effect, effect_read}
 use Rattle.transcript.specs.Printing.{answer_text, bad_line, too_long, flash_line}
 
 -- what a run prints from some record on, and the flash that it leaves
@@ -21,10 +20,10 @@ after text rest = ended (text ++ rest.text) rest.flash
 
 -- a record, and the rest of the run: "A record that breaks these rules prints `bad input at N`, N the offset of its first byte, .., and ends
 -- the run"
-abbrev pub turned : (Machine → Ran) → ℕ → Kind → Effect → Ran
-turned rest at kind e =
+abbrev pub turned : (Machine → Ran) → ℕ → Effect → Ran
+turned rest at e =
     cond e.good
-    (after (answer_text kind e.registers) (rest e.machine))
+    (after (answer_text e.answer) (rest e.machine))
     (ended (bad_line at) e.machine.flash)
 
 -- the records from an offset on, at most so many
@@ -32,7 +31,7 @@ unfoldable pub run_from : ℕ → Setup → List ℕ → ℕ → Machine → Ran
 run_from zero setup input at m = ended [] m.flash
 run_from (suc turns) setup input at m =
     cond (ltb at (length input))
-    (turned (run_from turns setup input (record_at input at).next) at (record_at input at).kind (effect setup (record_at input at) m))
+    (turned (run_from turns setup input (next_of (record_at input at))) at (effect_read setup (record_at input at) m))
     (ended [] m.flash)
 
 -- "It has S = 4, flash all FF, C = 2, B = 16, T = 8, a fresh session"

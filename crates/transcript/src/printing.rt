@@ -1,99 +1,102 @@
-// Bytes, numbers and lines put into a text.
+// Bytes, numbers and lines put behind what is printed.
 ghost use Rattle.std.specs.Prelude.{◌≡◌, ◌+◌, ◌≤◌, ◌<◌, length};
-ghost use Rattle.transcript.specs.Printing.{written, decimal, bad_line, is_command, answer_text, count_text, flash_line};
+ghost use Rattle.transcript.specs.Printing.{decimal, bad_line, answer_text, count_text, flash_line};
+ghost use Rattle.transcript.specs.Puts.{Puts};
 
 use crate::text::{count_written, register_line};
-use records::Kind;
 use units::{BLOCK, Blocks};
 
-// Puts bytes from a place on, each where there is room, and answers the place past them.
-pub(crate) fn put(text: &mut [u8], at: usize, part: &[u8]) -> usize
-    requires { (at ≤ 1000000) × (length part.now ≤ 64) }
-    ensures { (result ≡ at + length part.now)
-        × (text.new ≡ written at part.now text.old) }
-{
-    let mut i = 0;
-    while i < part.len() {
-        let place = at + i;
-        if place < text.len() {
-            text[place] = part[i];
+// What is printed: a text at the front of a buffer, as far as there is room, and its length.
+#[derive(Drop)]
+pub(crate) struct Printed<'a> {
+    pub(crate) text: &'a mut [u8],
+    pub(crate) end: usize,
+}
+
+impl<'a> Printed<'a> {
+    // Nothing yet.
+    pub(crate) fn new(text: &'a mut [u8]) -> Printed<'a>
+        ensures same_buffer { result.text.ghost_name ≡ text.entry.ghost_name }
+        ensures nothing { result.end ≡ 0 }
+        ensures text { result.text.now ≡ text.old }
+    {
+        Printed { text, end: 0 }
+    }
+
+    // Puts bytes, each where there is room.
+    pub(crate) fn put(&mut self, part: &[u8])
+        requires end { self.old.end ≤ 1000000 }
+        requires short { length part.now ≤ 64 }
+        ensures { Puts self.old part.now self.new }
+    {
+        let at = self.end;
+        for (i, byte) in part.iter().enumerate() {
+            if at + i < self.text.len() {
+                self.text[at + i] = *byte;
+            }
         }
-        i += 1;
+        self.end = at + part.len();
     }
-    at + part.len()
-}
 
-// Puts a number in decimal.
-fn put_decimal(text: &mut [u8], at: usize, n: usize) -> usize
-    requires { at ≤ 1000000 }
-    ensures { (result ≡ at + length (decimal n))
-        × (text.new ≡ written at (decimal n) text.old) × (result ≤ at + 20) }
-{
-    let mut digits = [0u8; 20];
-    let count = io::decimal(n as u64, &mut digits);
-    put(text, at, &digits[..count])
-}
-
-// Puts the line of a record that breaks a rule.
-pub(crate) fn put_bad(text: &mut [u8], at: usize, offset: usize) -> usize
-    requires { at ≤ 900000 }
-    ensures { (result ≡ at + length (bad_line offset))
-        × (text.new ≡ written at (bad_line offset) text.old) × (result ≤ at + 34) }
-{
-    let number = put(text, at, b"bad input at ");
-    let end = put_decimal(text, number, offset);
-    put(text, end, b"\n")
-}
-
-// Puts what a record prints: the registers after a command.
-pub(crate) fn put_answer(text: &mut [u8], at: usize, kind: Kind, registers: [u8; 16]) -> usize
-    requires { at ≤ 1000000 }
-    ensures { (result ≡ at + length (answer_text kind registers))
-        × (text.new ≡ written at (answer_text kind registers) text.old) × (result ≤ at + 48) }
-{
-    if is_command(kind) {
-        let line = register_line(registers);
-        return put(text, at, &line);
+    // Puts a number in decimal.
+    fn put_decimal(&mut self, n: usize)
+        requires { self.old.end ≤ 1000000 }
+        ensures puts { Puts self.old (decimal n) self.new }
+        ensures bound { self.new.end ≤ self.old.end + 20 }
+    {
+        let mut digits = [0u8; 20];
+        let count = io::decimal(n as u64, &mut digits);
+        self.put(&digits[..count]);
     }
-    at
-}
 
-fn is_command(kind: Kind) -> bool
-    ensures { result ≡ is_command kind }
-{
-    match kind {
-        Kind::Command => true,
-        Kind::Fill => false,
-        Kind::Suspend => false,
-        Kind::Resume => false,
-        Kind::ResumeChanged => false,
-        Kind::Malformed => false,
+    // Puts the line of a record that breaks a rule.
+    pub(crate) fn put_bad(&mut self, offset: usize)
+        requires { self.old.end ≤ 900000 }
+        ensures puts { Puts self.old (bad_line offset) self.new }
+        ensures bound { self.new.end ≤ self.old.end + 34 }
+    {
+        self.put(b"bad input at ");
+        self.put_decimal(offset);
+        self.put(b"\n");
     }
-}
 
-// Puts the count of one block, after a space.
-fn put_count(text: &mut [u8], at: usize, flash: &[u8], block: Blocks) -> usize
-    requires { (at ≤ 900000) × (block.0 < 4) × (length flash.now ≡ 16384) }
-    ensures { (result ≡ at + length (count_text block.0 flash.now))
-        × (text.new ≡ written at (count_text block.0 flash.now) text.old) × (result ≤ at + 21) }
-{
-    let start = block.bytes().0 as usize;
-    let end = start + BLOCK as usize;
-    let number = put(text, at, b" ");
-    put_decimal(text, number, count_written(&flash[start..end]))
-}
-
-// Puts the flash line of the bench's four blocks.
-pub(crate) fn put_flash(text: &mut [u8], at: usize, flash: &[u8]) -> usize
-    requires { (at ≤ 800000) × (length flash.now ≡ 16384) }
-    ensures { (result ≡ at + length (flash_line 4 flash.now))
-        × (text.new ≡ written at (flash_line 4 flash.now) text.old) × (result ≤ at + 90) }
-{
-    let mut end = put(text, at, b"flash");
-    let mut block: u32 = 0;
-    while block < 4 {
-        end = put_count(text, end, flash, Blocks(block));
-        block += 1;
+    // Puts what a record prints: the registers after a command.
+    #[tactic(auto, using(crate::proofs::Written::puts_none))]
+    pub(crate) fn put_answer(&mut self, answer: Option<[u8; 16]>)
+        requires { self.old.end ≤ 1000000 }
+        ensures puts { Puts self.old (answer_text answer) self.new }
+        ensures bound { self.new.end ≤ self.old.end + 48 }
+    {
+        if let Some(registers) = answer {
+            self.put(&register_line(registers));
+        }
     }
-    put(text, end, b"\n")
+
+    // Puts the count of one block, after a space.
+    fn put_count(&mut self, flash: &[u8], block: Blocks)
+        requires end { self.old.end ≤ 900000 }
+        requires block { block.0 < 4 }
+        requires flash { length flash.now ≡ 16384 }
+        ensures puts { Puts self.old (count_text block.0 flash.now) self.new }
+        ensures bound { self.new.end ≤ self.old.end + 21 }
+    {
+        let start = block.bytes().0 as usize;
+        let end = start + BLOCK as usize;
+        self.put(b" ");
+        self.put_decimal(count_written(&flash[start..end]));
+    }
+
+    // Puts the flash line of the bench's four blocks.
+    pub(crate) fn put_flash(&mut self, flash: &[u8])
+        requires end { self.old.end ≤ 800000 }
+        requires flash { length flash.now ≡ 16384 }
+        ensures puts { Puts self.old (flash_line 4 flash.now) self.new }
+        ensures bound { self.new.end ≤ self.old.end + 90 }
+    {
+        self.put(b"flash");
+        for block in 0..4 {
+            self.put_count(flash, Blocks(block));
+        }
+        self.put(b"\n");
+    }
 }

@@ -7,12 +7,9 @@ pub(crate) fn register_line(registers: [u8; 16]) -> [u8; 48]
     ensures { result ≡ register_line registers }
 {
     let mut line = [b' '; 48];
-    let mut i = 0;
-    while i < 16 {
-        let byte = registers[i];
+    for (i, byte) in registers.iter().enumerate() {
         line[3 * i] = hex_digit(byte / 16);
-        line[3 * i + 1] = hex_digit(byte);
-        i += 1;
+        line[3 * i + 1] = hex_digit(*byte);
     }
     line[47] = b'\n';
     line
@@ -31,16 +28,9 @@ fn hex_digit(byte: u8) -> u8
 }
 
 // How many bytes of a part are other than FF.
+#[tactic(auto, using(crate::proofs::Others::others_counted))]
 pub(crate) fn count_written(part: &[u8]) -> usize
     ensures { result ≡ other_than_ff part.now }
 {
-    let mut n = 0;
-    let mut i = 0;
-    while i < part.len() {
-        if part[i] != 0xff {
-            n += 1;
-        }
-        i += 1;
-    }
-    n
+    part.iter().filter(|b| **b != 0xff).count()
 }

@@ -4,66 +4,62 @@
 // document, with the reason for each line in docs/VECTORS.md.
 #![tactic(auto)]
 
-use leb128::{Read, Written};
-use std::io;
+use leb128::ReadError;
+use std::{fmt, io};
 use units::{Blocks, Bytes};
 
 fn main(rt: HostRuntime) -> io::Result<()> {
-    rounded(&rt, 0)?;
-    rounded(&rt, 1)?;
-    rounded(&rt, 4096)?;
-    rounded(&rt, 4097)?;
-    rounded(&rt, 8193)?;
-    rounded(&rt, 4294967295)?;
-    rounded(&rt, 17592186044416)?;
-    written(&rt, 0)?;
-    written(&rt, 127)?;
-    written(&rt, 128)?;
-    written(&rt, 300)?;
-    written(&rt, 16384)?;
-    written(&rt, 4294967295)?;
+    for length in [0, 1, 4096, 4097, 8193, 4294967295, 17592186044416] {
+        rounded(&rt, length)?;
+    }
+    for value in [0, 127, 128, 300, 16384, 4294967295] {
+        written(&rt, value)?;
+    }
     refused_write(&rt)?;
-    read(&rt, b"\x7f")?;
-    read(&rt, b"\xac\x02")?;
-    read(&rt, b"\xff\xff\xff\xff\x0f")?;
-    read(&rt, b"\xff\xff\xff\xff\x10")?;
-    read(&rt, b"\x80\x00")?;
-    read(&rt, b"\x80\x80")?;
-    read(&rt, b"")?;
+    let parts: [&[u8]; 7] = [
+        b"\x7f",
+        b"\xac\x02",
+        b"\xff\xff\xff\xff\x0f",
+        b"\xff\xff\xff\xff\x10",
+        b"\x80\x00",
+        b"\x80\x80",
+        b"",
+    ];
+    for part in parts {
+        read(&rt, part)?;
+    }
     chip_actions(&rt)?;
     kcs_exchange(&rt)
 }
 
-// A number and a space.
-fn number(rt: &impl Print, n: u64) -> io::Result<()> {
-    print!(rt; "{n} ")
-}
+// Bytes as numbers, each before a space.
+#[derive(Clone, Copy)]
+struct Row<'a>(&'a [u8]);
 
-fn word(rt: &impl Print, text: &str) -> io::Result<()> {
-    print!(rt; "{text}")
+impl fmt::Display for Row<'_> {
+    fn fmt<W: fmt::Write>(&self, f: &mut fmt::Formatter<W>) -> fmt::Result {
+        for byte in self.0 {
+            write!(f, "{byte} ")?;
+        }
+        Ok(())
+    }
 }
 
 // A length in bytes, and the blocks that hold it.
 fn rounded(rt: &impl Print, length: u64) -> io::Result<()> {
-    word(rt, "blocks ")?;
-    number(rt, length)?;
-    number(rt, Bytes(length).blocks().0 as u64)?;
-    word(rt, "\n")
+    println!(rt; "blocks {length} {} ", Bytes(length).blocks().0)
 }
 
-fn bytes(rt: &impl Print, part: &[u8]) -> io::Result<()> {
-    let mut i = 0;
-    while i < part.len() {
-        number(rt, part[i] as u64)?;
-        i += 1;
-    }
-    Ok(())
-}
-
-fn written_answer(rt: &impl Print, answer: Written) -> io::Result<()> {
+// The answer of a write, and the bytes after it.
+fn written_line(
+    rt: &impl Print,
+    value: u32,
+    answer: Option<usize>,
+    after: &[u8],
+) -> io::Result<()> {
     match answer {
-        Written::Next(next) => number(rt, next as u64),
-        Written::NoRoom => word(rt, "no room "),
+        Some(next) => println!(rt; "write {value} {next} {}", Row(after)),
+        None => println!(rt; "write {value} no room {}", Row(after)),
     }
 }
 
@@ -71,61 +67,41 @@ fn written_answer(rt: &impl Print, answer: Written) -> io::Result<()> {
 fn written(rt: &impl Print, value: u32) -> io::Result<()> {
     let mut buffer = [0u8; 7];
     let answer = leb128::write_at(&mut buffer, 1, value);
-    word(rt, "write ")?;
-    number(rt, value as u64)?;
-    written_answer(rt, answer)?;
-    bytes(rt, &buffer)?;
-    word(rt, "\n")
+    written_line(rt, value, answer, &buffer)
 }
 
 // 300 takes two bytes, and one is left.
 fn refused_write(rt: &impl Print) -> io::Result<()> {
     let mut buffer = [0u8; 3];
     let answer = leb128::write_at(&mut buffer, 2, 300);
-    word(rt, "write 300 ")?;
-    written_answer(rt, answer)?;
-    bytes(rt, &buffer)?;
-    word(rt, "\n")
+    written_line(rt, 300, answer, &buffer)
 }
 
 // The number at the front of some bytes, with the offset past it.
 fn read(rt: &impl Print, part: &[u8]) -> io::Result<()> {
-    word(rt, "read ")?;
-    bytes(rt, part)?;
+    print!(rt; "read {}", Row(part))?;
     match leb128::read_at(part, 0) {
-        Read::Number { value, next } => {
-            word(rt, "number ")?;
-            number(rt, value as u64)?;
-            number(rt, next as u64)?;
-        }
-        Read::Short => word(rt, "short ")?,
-        Read::Malformed => word(rt, "malformed ")?,
+        Ok(number) => println!(rt; "number {} {} ", number.value, number.next),
+        Err(ReadError::Short) => println!(rt; "short "),
+        Err(ReadError::Malformed) => println!(rt; "malformed "),
     }
-    word(rt, "\n")
 }
 
 // How many bytes of a part hold a value.
-fn count(part: &[u8], value: u8) -> u64 {
-    let mut n: u64 = 0;
-    let mut i = 0;
-    while i < part.len() {
-        if part[i] == value {
-            n += 1;
-        }
-        i += 1;
-    }
-    n
+fn count(part: &[u8], value: u8) -> usize {
+    part.iter().filter(|b| **b == value).count()
 }
 
 // Whether an action was done, and how many bytes are F0, 0F, FF and 00 after it.
 fn shown(rt: &impl Print, done: bool, flash: &[u8]) -> io::Result<()> {
-    word(rt, "chip ")?;
-    number(rt, done as u64)?;
-    number(rt, count(flash, 0xf0))?;
-    number(rt, count(flash, 0x0f))?;
-    number(rt, count(flash, 0xff))?;
-    number(rt, count(flash, 0x00))?;
-    word(rt, "\n")
+    let done = u8::from(done);
+    let set = count(flash, 0xff);
+    println!(rt;
+        "chip {done} {} {} {set} {} ",
+        count(flash, 0xf0),
+        count(flash, 0x0f),
+        count(flash, 0x00)
+    )
 }
 
 // Two blocks of F0 under a window of 0F: a page without the erase, the erase, the page again, and
@@ -147,10 +123,7 @@ fn chip_actions(rt: &impl Print) -> io::Result<()> {
 
 // What an access to a KCS port gave, and the status after it.
 fn port_line(rt: &impl Print, given: u8, port: kcs::Port) -> io::Result<()> {
-    word(rt, "kcs ")?;
-    number(rt, given as u64)?;
-    number(rt, kcs::read_status(port) as u64)?;
-    word(rt, "\n")
+    println!(rt; "kcs {given} {} ", kcs::read_status(port))
 }
 
 // A message of two bytes, handed in and back by value, and its answer of two.

@@ -1,10 +1,7 @@
 -- The registers before place i are written.
-use Rattle.std.proofs.Common.{◌≡◌, ◌-◌, ◌≤◌}
+use Rattle.std.proofs.Common.{◌≡◌}
 use Rattle.transcript.proofs.Lines.{part_way}
 use Rattle.transcript.proofs.text.register_line.Given as goal
 
 abbrev pub invariant-loop-i : goal.invariant-loop-i
-invariant-loop-i l = (l.i ≤ 16) × (l.line ≡ part_way l.i l.registers)
-
-abbrev pub decreases-loop-i : goal.decreases-loop-i
-decreases-loop-i l = 16 - l.i
+invariant-loop-i l = l.line ≡ part_way l.i l.byte-items
