@@ -3,11 +3,13 @@ use mathlib.Core.Path.{◌≡◌, refl}
 use mathlib.Core.Bool.{Bool, true, false, cond}
 use Prim.Native.Nat.{ℕ, zero, suc, ◌≤◌}
 use native.Mathlib.Omega.{arith}
+use Rattle.std.specs.Prelude.{Some, None}
+use Rattle.std.specs.Option.{unwrap_or}
 use lib.Dec.{eqb}
 use borrow.Author.Tests.{eqb-true}
 use Rattle.kcs.specs.Port.{Port, Phase, idle, writing, ending, awaiting, reading, aborting, failed, phase_of}
 use Rattle.units.proofs.Cases.{chosen}
-use Rattle.kcs.specs.Effects.{Keeps, Completes, TooLong, Tells, Continues, Finishes, WrongCode, on_end, on_data, left, told_length}
+use Rattle.kcs.specs.Effects.{Keeps, Completes, TooLong, Tells, Continues, Finishes, WrongCode, on_end, on_data, left, told_message}
 use Rattle.kcs.specs.Accesses.{effected, with_control}
 use Rattle.kcs.specs.Bytes.{}
 
@@ -57,7 +59,7 @@ kept_data (suc (suc (suc n))) room more byte above below = absurd (omega (arith,
 pub reading_step
     : (asked more : Bool) (given byte : ℕ) (p : Port)
     → (with_control (left (cond asked (cond more Continues Finishes) WrongCode) given p.control) p ≡ effected (cond asked (cond more Continues Finishes) WrongCode) given byte p)
-    × (0 ≡ told_length (cond asked (cond more Continues Finishes) WrongCode) p.control)
+    × (None ≡ told_message (cond asked (cond more Continues Finishes) WrongCode) p.control)
 reading_step true true given byte p = (refl, refl)
 reading_step true false given byte p = (refl, refl)
 reading_step false more given byte p = (refl, refl)
@@ -65,6 +67,11 @@ reading_step false more given byte p = (refl, refl)
 pub aborting_step
     : (asked : Bool) (given byte : ℕ) (p : Port)
     → (with_control (left (cond asked Tells WrongCode) given p.control) p ≡ effected (cond asked Tells WrongCode) given byte p)
-    × (0 ≡ told_length (cond asked Tells WrongCode) p.control)
+    × (None ≡ told_message (cond asked Tells WrongCode) p.control)
 aborting_step true given byte p = (refl, refl)
 aborting_step false given byte p = (refl, refl)
+
+-- the option that a write gives and the number that C gets tell the same
+pub told_number : (last : Bool) (n : ℕ) → unwrap_or (cond last (Some n) None) 0 ≡ cond last n 0
+told_number true n = refl
+told_number false n = refl

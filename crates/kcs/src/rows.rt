@@ -2,7 +2,7 @@
 ghost use Rattle.std.specs.Prelude.{ℕ, ◌+◌, ◌≤◌, ◌≡◌, true, cond, ◌&&◌, eqb, ltb, leb, length};
 ghost use Rattle.buffers.specs.Ranges.{replace};
 ghost use Rattle.kcs.specs.Port.{reading, aborting, failed, state_bits, phase_of, is_set};
-ghost use Rattle.kcs.specs.Effects.{Keeps, Completes, Finishes, TooLong, has_room, has_next, on_data, left, shown, showing, with_fault, with_place, told_length};
+ghost use Rattle.kcs.specs.Effects.{Keeps, Completes, Finishes, TooLong, has_room, has_next, on_data, left, shown, showing, with_fault, with_place, told_message};
 ghost use Rattle.kcs.specs.Accesses.{effected, with_control, next_byte};
 ghost use Rattle.kcs.specs.Bytes.{control_of, port_of, bytes_of};
 
@@ -65,8 +65,7 @@ pub(crate) fn state_bits(phase: u8) -> u8
 // ---- the host writes
 
 // OBF set on a byte, in this phase.
-pub(crate) fn show(port: &mut [u8], phase: u8, byte: u8)
-    requires { length port.old ≡ 136 }
+pub(crate) fn show(port: &mut [u8; SIZE], phase: u8, byte: u8)
     ensures { port.new ≡ bytes_of (with_control (shown phase byte (control_of port.old)) (port_of port.old)) }
 {
     port[PHASE] = phase;
@@ -75,8 +74,7 @@ pub(crate) fn show(port: &mut [u8], phase: u8, byte: u8)
 }
 
 // The error state, with the status that 60 tells then.
-pub(crate) fn refuse(port: &mut [u8], fault: u8)
-    requires { length port.old ≡ 136 }
+pub(crate) fn refuse(port: &mut [u8; SIZE], fault: u8)
     ensures { port.new
         ≡ bytes_of (with_control (showing failed 0x00 (with_fault fault (control_of port.old))) (port_of port.old)) }
 {
@@ -84,34 +82,32 @@ pub(crate) fn refuse(port: &mut [u8], fault: u8)
     show(port, 6, 0);
 }
 
-// A byte of the request, the last one or not; the answer is the length of the message that is complete with it, or 0.
-pub(crate) fn keep(port: &mut [u8], byte: u8, last: bool) -> u8
-    requires { length port.old ≡ 136 }
+// A byte of the request, the last one or not; the answer is the length of the message that is complete with it.
+pub(crate) fn keep(port: &mut [u8; SIZE], byte: u8, last: bool) -> Option<u8>
     ensures { ((given : ℕ) → port.new
         ≡ bytes_of (effected (cond (has_room (control_of port.old)) (cond last Completes Keeps) TooLong) given byte (port_of port.old)))
-        × (result ≡ told_length (cond (has_room (control_of port.old)) (cond last Completes Keeps) TooLong) (control_of port.old)) }
+        × (result ≡ told_message (cond (has_room (control_of port.old)) (cond last Completes Keeps) TooLong) (control_of port.old)) }
 {
     let length = port[LENGTH];
     if length >= 64 {
         refuse(port, 6);
-        return 0;
+        return None;
     }
     port[REQUEST + length as usize] = byte;
     let longer = length + 1;
     port[LENGTH] = longer;
     if !last {
         show(port, 1, 0);
-        return 0;
+        return None;
     }
     port[PHASE] = 3;
     port[FULL] = 0;
     port[OUTPUT] = 0;
-    longer
+    Some(longer)
 }
 
 // A data byte while the host reads: 68 asks for the next byte, or ends the transfer.
-pub(crate) fn read_on(port: &mut [u8], byte: u8)
-    requires { length port.old ≡ 136 }
+pub(crate) fn read_on(port: &mut [u8; SIZE], byte: u8)
     ensures { port.new ≡ bytes_of (with_control
         (left (on_data reading true (has_next (control_of port.old)) byte) (next_byte (port_of port.old)) (control_of port.old))
         (port_of port.old)) }
@@ -138,8 +134,7 @@ fn has_next(next: u8, end: u8) -> bool
 }
 
 // All was read, or there is nothing to read: the port is idle.
-pub(crate) fn finish(port: &mut [u8])
-    requires { length port.old ≡ 136 }
+pub(crate) fn finish(port: &mut [u8; SIZE])
     ensures { port.new ≡ bytes_of (with_control (left Finishes 0x00 (control_of port.old)) (port_of port.old)) }
 {
     port[FAULT] = 0;
@@ -147,8 +142,7 @@ pub(crate) fn finish(port: &mut [u8])
 }
 
 // A data byte that follows 60: 00 gets the status, which is all that is read then.
-pub(crate) fn tell(port: &mut [u8], byte: u8)
-    requires { length port.old ≡ 136 }
+pub(crate) fn tell(port: &mut [u8; SIZE], byte: u8)
     ensures { (given : ℕ) → port.new ≡ bytes_of (with_control
         (left (on_data aborting true true byte) given (control_of port.old))
         (port_of port.old)) }
@@ -172,8 +166,8 @@ pub(crate) fn is_taken(phase: u8, length: usize) -> bool
 }
 
 // A response in its place; it fits there.
-pub(crate) fn put_response(port: &mut [u8], response: &[u8])
-    requires { 72 + length response.now ≤ length port.old }
+pub(crate) fn put_response(port: &mut [u8; SIZE], response: &[u8])
+    requires { length response.now ≤ 64 }
     ensures { port.new ≡ replace 72 response.now port.old }
 {
     let end = RESPONSE + response.len();
@@ -181,8 +175,7 @@ pub(crate) fn put_response(port: &mut [u8], response: &[u8])
 }
 
 // The response's first byte, of this many.
-pub(crate) fn offer(port: &mut [u8], count: u8, first: u8)
-    requires { length port.old ≡ 136 }
+pub(crate) fn offer(port: &mut [u8; SIZE], count: u8, first: u8)
     ensures { port.new
         ≡ bytes_of (with_control (showing reading first (with_place 1 count (control_of port.old))) (port_of port.old)) }
 {
