@@ -4,16 +4,17 @@ ghost use Rattle.kcs.specs.Effects.{Opens, left};
 ghost use Rattle.kcs.specs.Accesses.{with_control, status_read, byte_read, data_read, command_written, data_written, message_told, answers, answered};
 ghost use Rattle.kcs.specs.Bytes.{control_of, port_of, bytes_of};
 
+use crate::phase::{Phase, Refusal};
 use crate::rows::{
     COMMAND, FAULT, FULL, LENGTH, OUTPUT, PHASE, SIZE, bit, finish, is_taken, keep, offer,
-    put_response, read_on, refuse, show, state_bits, tell,
+    put_response, read_on, refuse, show, tell,
 };
 
 // The status register: the state in bits 7 and 6, C/D# in bit 3, OBF in bit 0.
 pub(crate) fn read_status(port: &[u8; SIZE]) -> u8
     ensures { result ≡ status_read (port_of port.now) }
 {
-    state_bits(port[PHASE]) * 64 + (bit(port[COMMAND], 8) + bit(port[FULL], 1))
+    Phase::from(port[PHASE]).state_bits() * 64 + (bit(port[COMMAND], 8) + bit(port[FULL], 1))
 }
 
 // The host reads Data_Out, which clears OBF; where it is clear a read gives 00.
@@ -30,19 +31,19 @@ pub(crate) fn read_data(port: &mut [u8; SIZE]) -> u8
 pub(crate) fn write_command(port: &mut [u8; SIZE], code: u8)
     ensures { port.new ≡ bytes_of (command_written code (port_of port.old)) }
 {
-    let phase = port[PHASE];
+    let phase = Phase::from(port[PHASE]);
     port[COMMAND] = 1;
     match code {
-        0x60 => show(port, 5, 0),
+        0x60 => show(port, Phase::Aborting, 0),
         0x61 => open(port),
         0x62 => {
-            if phase == 1 {
-                show(port, 2, 0);
+            if phase == Phase::Writing {
+                show(port, Phase::Ending, 0);
             } else {
-                refuse(port, 2);
+                refuse(port, Refusal::WrongCode);
             }
         }
-        _ => refuse(port, 2),
+        _ => refuse(port, Refusal::WrongCode),
     }
 }
 
@@ -52,21 +53,21 @@ fn open(port: &mut [u8; SIZE])
 {
     port[LENGTH] = 0;
     port[FAULT] = 1;
-    show(port, 1, 0);
+    show(port, Phase::Writing, 0);
 }
 
 // The host writes to Data_In, by the phase that the byte comes in; the answer is the length of the message that this completed.
 pub(crate) fn write_data(port: &mut [u8; SIZE], byte: u8) -> Option<u8>
     ensures { (port.new ≡ bytes_of (data_written byte (port_of port.old))) × (result ≡ message_told byte (port_of port.old)) }
 {
-    let phase = port[PHASE];
+    let phase = Phase::from(port[PHASE]);
     port[COMMAND] = 0;
     // one arm for both phases of a request: with two, this becomes a jump through a table, which is slower
     match phase {
-        1 | 2 => return keep(port, byte, phase == 2),
-        4 => read_on(port, byte),
-        5 => tell(port, byte),
-        _ => refuse(port, 2),
+        Phase::Writing | Phase::Ending => return keep(port, byte, phase == Phase::Ending),
+        Phase::Reading => read_on(port, byte),
+        Phase::Aborting => tell(port, byte),
+        Phase::Idle | Phase::Awaiting | Phase::Failed => refuse(port, Refusal::WrongCode),
     }
     None
 }
@@ -77,7 +78,7 @@ pub(crate) fn respond(port: &mut [u8; SIZE], response: &[u8]) -> bool
         × (result ≡ answers response.now (port_of port.old)) }
 {
     let length = response.len();
-    if !is_taken(port[PHASE], length) {
+    if !is_taken(Phase::from(port[PHASE]), length) {
         return false;
     }
     if length == 0 {

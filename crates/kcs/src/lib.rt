@@ -7,6 +7,7 @@
 
 mod accesses;
 mod in_place;
+mod phase;
 mod rows;
 
 ghost use Rattle.std.specs.Prelude.{◌≡◌};

@@ -1,17 +1,20 @@
 // What the rows of the table store: each only the bytes that it may change.
 ghost use Rattle.std.specs.Prelude.{ℕ, ◌+◌, ◌≤◌, ◌≡◌, true, cond, ◌&&◌, eqb, ltb, leb, length};
 ghost use Rattle.buffers.specs.Ranges.{replace};
-ghost use Rattle.kcs.specs.Port.{reading, aborting, failed, state_bits, phase_of, is_set};
-ghost use Rattle.kcs.specs.Effects.{Keeps, Completes, Finishes, TooLong, has_room, has_next, on_data, left, shown, showing, with_fault, with_place, told_message};
+ghost use Rattle.kcs.specs.Port.{reading, aborting, failed, phase_of, is_set};
+ghost use Rattle.kcs.specs.Kinds.{phase_meant, fault_told};
+ghost use Rattle.kcs.specs.Effects.{Keeps, Completes, Finishes, TooLong, has_room, has_next, on_data, left, showing, with_fault, with_place, told_message};
 ghost use Rattle.kcs.specs.Accesses.{effected, with_control, next_byte};
 ghost use Rattle.kcs.specs.Bytes.{control_of, port_of, bytes_of};
 
 use buffers::copy;
 
+use crate::phase::{Phase, Refusal};
+
 // How many bytes a port has.
 pub(crate) const SIZE: usize = 136;
 
-// 0 idle, 1 writing, 2 ending, 3 awaiting, 4 reading, 5 aborting; any other is the error phase, which a refusal sets to 6.
+// The number of the phase.
 pub(crate) const PHASE: usize = 0;
 
 // The status bits C/D# and OBF: 0 clear, any other number set.
@@ -47,39 +50,24 @@ pub(crate) fn bit(number: u8, value: u8) -> u8
     if number == 0 { 0 } else { value }
 }
 
-// Idle 0, read 1, write 2, error 3.
-pub(crate) fn state_bits(phase: u8) -> u8
-    ensures { result ≡ state_bits (phase_of phase) }
-{
-    match phase {
-        0 => 0,
-        1 => 2,
-        2 => 2,
-        3 => 1,
-        4 => 1,
-        5 => 2,
-        _ => 3,
-    }
-}
-
 // ---- the host writes
 
 // OBF set on a byte, in this phase.
-pub(crate) fn show(port: &mut [u8; SIZE], phase: u8, byte: u8)
-    ensures { port.new ≡ bytes_of (with_control (shown phase byte (control_of port.old)) (port_of port.old)) }
+pub(crate) fn show(port: &mut [u8; SIZE], phase: Phase, byte: u8)
+    ensures { port.new ≡ bytes_of (with_control (showing (phase_meant phase) byte (control_of port.old)) (port_of port.old)) }
 {
-    port[PHASE] = phase;
+    port[PHASE] = phase as u8;
     port[FULL] = 1;
     port[OUTPUT] = byte;
 }
 
 // The error state, with the status that 60 tells then.
-pub(crate) fn refuse(port: &mut [u8; SIZE], fault: u8)
+pub(crate) fn refuse(port: &mut [u8; SIZE], refusal: Refusal)
     ensures { port.new
-        ≡ bytes_of (with_control (showing failed 0x00 (with_fault fault (control_of port.old))) (port_of port.old)) }
+        ≡ bytes_of (with_control (showing failed 0x00 (with_fault (fault_told refusal) (control_of port.old))) (port_of port.old)) }
 {
-    port[FAULT] = fault;
-    show(port, 6, 0);
+    port[FAULT] = refusal as u8;
+    show(port, Phase::Failed, 0);
 }
 
 // A byte of the request, the last one or not; the answer is the length of the message that is complete with it.
@@ -90,17 +78,17 @@ pub(crate) fn keep(port: &mut [u8; SIZE], byte: u8, last: bool) -> Option<u8>
 {
     let length = port[LENGTH];
     if length >= 64 {
-        refuse(port, 6);
+        refuse(port, Refusal::TooLong);
         return None;
     }
     port[REQUEST + length as usize] = byte;
     let longer = length + 1;
     port[LENGTH] = longer;
     if !last {
-        show(port, 1, 0);
+        show(port, Phase::Writing, 0);
         return None;
     }
-    port[PHASE] = 3;
+    port[PHASE] = Phase::Awaiting as u8;
     port[FULL] = 0;
     port[OUTPUT] = 0;
     Some(longer)
@@ -114,13 +102,13 @@ pub(crate) fn read_on(port: &mut [u8; SIZE], byte: u8)
 {
     let next = port[NEXT];
     if byte != 0x68 {
-        refuse(port, 2);
+        refuse(port, Refusal::WrongCode);
         return;
     }
     if has_next(next, port[END]) {
         let given = port[RESPONSE + next as usize];
         port[NEXT] = next + 1;
-        show(port, 4, given);
+        show(port, Phase::Reading, given);
         return;
     }
     finish(port);
@@ -138,7 +126,7 @@ pub(crate) fn finish(port: &mut [u8; SIZE])
     ensures { port.new ≡ bytes_of (with_control (left Finishes 0x00 (control_of port.old)) (port_of port.old)) }
 {
     port[FAULT] = 0;
-    show(port, 0, 0);
+    show(port, Phase::Idle, 0);
 }
 
 // A data byte that follows 60: 00 gets the status, which is all that is read then.
@@ -149,20 +137,20 @@ pub(crate) fn tell(port: &mut [u8; SIZE], byte: u8)
 {
     let fault = port[FAULT];
     if byte != 0 {
-        refuse(port, 2);
+        refuse(port, Refusal::WrongCode);
         return;
     }
     port[END] = 0;
-    show(port, 4, fault);
+    show(port, Phase::Reading, fault);
 }
 
 // ---- the controller answers
 
 // Whether a response of this length is taken: it is awaited, and fits.
-pub(crate) fn is_taken(phase: u8, length: usize) -> bool
-    ensures { result ≡ (leb length 64 && eqb phase 3) }
+pub(crate) fn is_taken(phase: Phase, length: usize) -> bool
+    ensures { (number : ℕ) → phase_meant phase ≡ phase_of number → result ≡ (leb length 64 && eqb number 3) }
 {
-    length <= 64 && phase == 3
+    length <= 64 && phase == Phase::Awaiting
 }
 
 // A response in its place; it fits there.
@@ -181,5 +169,5 @@ pub(crate) fn offer(port: &mut [u8; SIZE], count: u8, first: u8)
 {
     port[NEXT] = 1;
     port[END] = count;
-    show(port, 4, first);
+    show(port, Phase::Reading, first);
 }

@@ -10,7 +10,7 @@ use Rattle.kcs.proofs.accesses.respond.Goals as goal
 
 pub returns-then-not-is_taken : goal.returns-then-not-is_taken
 returns-then-not-is_taken c =
-    let refused = sym c.is_taken.ensures ∙ c.if-not-is_taken.true in
+    let refused = sym (c.is_taken.ensures (get_or c.args.port.now 0 0) c.from.ensures) ∙ c.if-not-is_taken.true in
     rw refused (sym (bytes_back c.args.port.now c.told-port), refl)
 
 pub returns : goal.returns
@@ -18,7 +18,7 @@ returns c =
     let xs = c.args.port.now in
     let ys = c.args.response.now in
     let n = length ys in
-    let taken = sym c.is_taken.ensures ∙ c.if-not-is_taken.false in
+    let taken = sym (c.is_taken.ensures (get_or c.args.port.now 0 0) c.from.ensures) ∙ c.if-not-is_taken.false in
     let placed = ap port_of c.put_response.ensures ∙ response_put ys xs c.told-port (taken_short n (control_of xs) taken) in
     let offered = c.offer.ensures
     ∙ ap (λ (p : Port). bytes_of (with_control (showing reading (get_or ys 0 0) (with_place 1 n p.control)) p)) placed in
