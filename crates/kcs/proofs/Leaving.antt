@@ -16,15 +16,6 @@ use Rattle.kcs.proofs.Places.{changed}
 commanded : (n : ℕ) (xs : List ℕ) → length xs ≡ 136 → port_of (set xs 1 n) ≡ with_control (with_command n (control_of xs)) (port_of xs)
 commanded n = changed (λ (ys : List ℕ). set ys 1 n) (with_command n) (λ c t. refl)
 
-pub command_left
-    : (effect : Effect) (code : ℕ) (xs ys : List ℕ) → length xs ≡ 136 → on_command (phase_of (get_or xs 0 0)) code ≡ effect
-    → ys ≡ bytes_of (with_control (left effect 0x00 (control_of (set xs 1 1))) (port_of (set xs 1 1)))
-    → ys ≡ bytes_of (command_written code (port_of xs))
-command_left effect code xs ys long row e =
-    e
-    ∙ ap (λ (p : Port). bytes_of (with_control (left effect 0x00 p.control) p)) (commanded 1 xs long)
-    ∙ ap (λ (f : Effect). bytes_of (with_control (left f 0x00 (with_command 1 (control_of xs))) (port_of xs))) (sym row)
-
 -- a row of data may ask for the port that it finds
 pub data_left
     : (effect : Port → Effect) (byte : ℕ) (told : Option ℕ) (xs ys : List ℕ) → length xs ≡ 136
@@ -40,8 +31,3 @@ data_left effect byte told xs ys long row e t = (
       ∙ ap (λ (p : Port). told_message (effect p) p.control) (commanded 0 xs long)
       ∙ ap (λ (f : Effect). told_message f (with_command 0 (control_of xs))) (sym row),
 )
-
--- an empty response leaves the buffer
-pub none_put : (ys xs : List ℕ) → length ys ≡ 0 → replace 0 ys xs ≡ xs
-none_put [] xs e = refl
-none_put (y ∷ ys) xs e = absurd (omega (arith, e))

@@ -48,18 +48,3 @@ kept_inside byte c =
     (λ _ e. absurd (none_read (eqb byte 0x68) (has_next c) e))
     (λ _ e. absurd (none_aborted (eqb byte 0x00) e))
     (λ e. absurd (false≢true e))
-
--- ---- the status register
-
-pub state_small : (p : Phase) → state_bits p ≤ 3
-state_small idle = omega arith
-state_small writing = omega arith
-state_small ending = omega arith
-state_small awaiting = omega arith
-state_small reading = omega arith
-state_small aborting = omega arith
-state_small failed = omega arith
-
-pub bit_small : (t : Bool) (value : ℕ) → cond t value 0 ≤ value
-bit_small true value = omega arith
-bit_small false value = omega arith

@@ -4,17 +4,18 @@ ghost use Rattle.kcs.specs.Effects.{Opens, left};
 ghost use Rattle.kcs.specs.Accesses.{with_control, status_read, byte_read, data_read, command_written, data_written, message_told, answers, answered};
 ghost use Rattle.kcs.specs.Bytes.{control_of, port_of, bytes_of};
 
-use crate::phase::{Phase, Refusal};
+use crate::phase::{Fault, Phase};
 use crate::rows::{
-    COMMAND, FAULT, FULL, LENGTH, OUTPUT, PHASE, SIZE, bit, finish, is_taken, keep, offer,
-    put_response, read_on, refuse, show, tell,
+    COMMAND, FAULT, FULL, LENGTH, OUTPUT, PHASE, SIZE, finish, is_taken, keep, offer, put_response,
+    read_on, refuse, show, tell,
 };
 
 // The status register: the state in bits 7 and 6, C/D# in bit 3, OBF in bit 0.
 pub(crate) fn read_status(port: &[u8; SIZE]) -> u8
     ensures { result ≡ status_read (port_of port.now) }
 {
-    Phase::from(port[PHASE]).state_bits() * 64 + (bit(port[COMMAND], 8) + bit(port[FULL], 1))
+    Phase::from(port[PHASE]).state_bits() * 64
+        + (u8::from(port[COMMAND] != 0) * 8 + u8::from(port[FULL] != 0))
 }
 
 // The host reads Data_Out, which clears OBF; where it is clear a read gives 00.
@@ -33,6 +34,7 @@ pub(crate) fn write_command(port: &mut [u8; SIZE], code: u8)
 {
     let phase = Phase::from(port[PHASE]);
     port[COMMAND] = 1;
+    // the codes are bytes of the standard, and each stands here alone
     match code {
         0x60 => show(port, Phase::Aborting, 0),
         0x61 => open(port),
@@ -40,10 +42,10 @@ pub(crate) fn write_command(port: &mut [u8; SIZE], code: u8)
             if phase == Phase::Writing {
                 show(port, Phase::Ending, 0);
             } else {
-                refuse(port, Refusal::WrongCode);
+                refuse(port, Fault::WrongCode);
             }
         }
-        _ => refuse(port, Refusal::WrongCode),
+        _ => refuse(port, Fault::WrongCode),
     }
 }
 
@@ -52,7 +54,7 @@ fn open(port: &mut [u8; SIZE])
     ensures { port.new ≡ bytes_of (with_control (left Opens 0x00 (control_of port.old)) (port_of port.old)) }
 {
     port[LENGTH] = 0;
-    port[FAULT] = 1;
+    port[FAULT] = Fault::Aborted as u8;
     show(port, Phase::Writing, 0);
 }
 
@@ -67,7 +69,7 @@ pub(crate) fn write_data(port: &mut [u8; SIZE], byte: u8) -> Option<u8>
         Phase::Writing | Phase::Ending => return keep(port, byte, phase == Phase::Ending),
         Phase::Reading => read_on(port, byte),
         Phase::Aborting => tell(port, byte),
-        Phase::Idle | Phase::Awaiting | Phase::Failed => refuse(port, Refusal::WrongCode),
+        Phase::Idle | Phase::Awaiting | Phase::Failed => refuse(port, Fault::WrongCode),
     }
     None
 }

@@ -1,4 +1,4 @@
-// The phases of a port and the refusals of a write, for which the record has a byte each: C's record is bytes.
+// The phases of a port and the status that 60 tells; C's record has a byte for each.
 ghost use Rattle.std.specs.Prelude.{◌≡◌};
 ghost use Rattle.kcs.specs.Port.{phase_of, state_bits};
 ghost use Rattle.kcs.specs.Kinds.{phase_meant};
@@ -45,9 +45,11 @@ impl Phase {
     }
 }
 
-// Why a write is refused; the numbers are those that 60 tells then.
+// The status that 60 tells.
 #[derive(Clone, Copy)]
-pub(crate) enum Refusal {
+pub(crate) enum Fault {
+    NoError = 0x00,
+    Aborted = 0x01,
     WrongCode = 0x02,
     TooLong = 0x06,
 }

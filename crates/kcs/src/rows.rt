@@ -1,15 +1,14 @@
 // What the rows of the table store: each only the bytes that it may change.
 ghost use Rattle.std.specs.Prelude.{ℕ, ◌+◌, ◌≤◌, ◌≡◌, true, cond, ◌&&◌, eqb, ltb, leb, length};
 ghost use Rattle.buffers.specs.Ranges.{replace};
-ghost use Rattle.kcs.specs.Port.{reading, aborting, failed, phase_of, is_set};
+ghost use Rattle.kcs.specs.Port.{reading, aborting, failed, phase_of};
 ghost use Rattle.kcs.specs.Kinds.{phase_meant, fault_told};
 ghost use Rattle.kcs.specs.Effects.{Keeps, Completes, Finishes, TooLong, has_room, has_next, on_data, left, showing, with_fault, with_place, told_message};
 ghost use Rattle.kcs.specs.Accesses.{effected, with_control, next_byte};
 ghost use Rattle.kcs.specs.Bytes.{control_of, port_of, bytes_of};
 
+use crate::phase::{Fault, Phase};
 use buffers::copy;
-
-use crate::phase::{Phase, Refusal};
 
 // How many bytes a port has.
 pub(crate) const SIZE: usize = 136;
@@ -41,15 +40,6 @@ const REQUEST: usize = 8;
 
 const RESPONSE: usize = 72;
 
-// ---- the status register
-
-// The value of a bit that this number says is set or not.
-pub(crate) fn bit(number: u8, value: u8) -> u8
-    ensures { result ≡ cond (is_set number) value 0 }
-{
-    if number == 0 { 0 } else { value }
-}
-
 // ---- the host writes
 
 // OBF set on a byte, in this phase.
@@ -62,11 +52,11 @@ pub(crate) fn show(port: &mut [u8; SIZE], phase: Phase, byte: u8)
 }
 
 // The error state, with the status that 60 tells then.
-pub(crate) fn refuse(port: &mut [u8; SIZE], refusal: Refusal)
+pub(crate) fn refuse(port: &mut [u8; SIZE], fault: Fault)
     ensures { port.new
-        ≡ bytes_of (with_control (showing failed 0x00 (with_fault (fault_told refusal) (control_of port.old))) (port_of port.old)) }
+        ≡ bytes_of (with_control (showing failed 0x00 (with_fault (fault_told fault) (control_of port.old))) (port_of port.old)) }
 {
-    port[FAULT] = refusal as u8;
+    port[FAULT] = fault as u8;
     show(port, Phase::Failed, 0);
 }
 
@@ -78,7 +68,7 @@ pub(crate) fn keep(port: &mut [u8; SIZE], byte: u8, last: bool) -> Option<u8>
 {
     let length = port[LENGTH];
     if length >= 64 {
-        refuse(port, Refusal::TooLong);
+        refuse(port, Fault::TooLong);
         return None;
     }
     port[REQUEST + length as usize] = byte;
@@ -102,7 +92,7 @@ pub(crate) fn read_on(port: &mut [u8; SIZE], byte: u8)
 {
     let next = port[NEXT];
     if byte != 0x68 {
-        refuse(port, Refusal::WrongCode);
+        refuse(port, Fault::WrongCode);
         return;
     }
     if has_next(next, port[END]) {
@@ -125,7 +115,7 @@ fn has_next(next: u8, end: u8) -> bool
 pub(crate) fn finish(port: &mut [u8; SIZE])
     ensures { port.new ≡ bytes_of (with_control (left Finishes 0x00 (control_of port.old)) (port_of port.old)) }
 {
-    port[FAULT] = 0;
+    port[FAULT] = Fault::NoError as u8;
     show(port, Phase::Idle, 0);
 }
 
@@ -137,7 +127,7 @@ pub(crate) fn tell(port: &mut [u8; SIZE], byte: u8)
 {
     let fault = port[FAULT];
     if byte != 0 {
-        refuse(port, Refusal::WrongCode);
+        refuse(port, Fault::WrongCode);
         return;
     }
     port[END] = 0;

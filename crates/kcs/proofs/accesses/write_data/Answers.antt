@@ -15,9 +15,9 @@ returns-in-Aborting c =
     let p = port_of (set xs 1 0) in
     let step = aborting_step (eqb a.byte 0x00) (next_byte p) a.byte p in
     data_left (λ (q : Port). on_data aborting true true a.byte) a.byte _ xs _ c.told-port
-        (ap (λ (q : Phase). on_data q (has_room (control_of xs)) (has_next (control_of xs)) a.byte) (sym c.in-Aborting.ensures))
-        (c.tell.ensures (next_byte p) ∙ ap bytes_of step.0)
-        step.1
+    (ap (λ (q : Phase). on_data q (has_room (control_of xs)) (has_next (control_of xs)) a.byte) (sym c.in-Aborting.ensures))
+    (c.tell.ensures (next_byte p) ∙ ap bytes_of step.0)
+    step.1
 
 pub returns-in-Writing : goal.returns-in-Writing
 returns-in-Writing c =
@@ -26,6 +26,6 @@ returns-in-Writing c =
     let now = control_of xs in
     let last = c.eq.result in
     data_left (λ (q : Port). cond (has_room q.control) (cond last Completes Keeps) TooLong) a.byte _ xs _ c.told-port
-        (kept_data c.from-phase.result last now.phase (has_room now) (has_next now) a.byte c.in-Writing.is c.eq.ensures c.from-phase.ensures)
-        (c.keep.ensures.0 (next_byte (port_of (set xs 1 0))))
-        c.keep.ensures.1
+    (kept_data c.from-phase.result last now.phase (has_room now) (has_next now) a.byte c.in-Writing.is c.eq.ensures c.from-phase.ensures)
+    (c.keep.ensures.0 (next_byte (port_of (set xs 1 0))))
+    c.keep.ensures.1
