@@ -1,14 +1,12 @@
 -- What a row leaves where C/D# is stored first is what the access leaves.
 use mathlib.Core.Path.{◌≡◌, refl, sym, ap, ◌∙◌}
-use mathlib.Core.List.{List, [], ◌∷◌}
+use mathlib.Core.List.{List}
 use Prim.Native.Nat.{ℕ}
-use native.Mathlib.Omega.{arith}
 use Rattle.std.specs.Prelude.{Option}
-use lib.ListN.{length, get_or, set}
-use Rattle.buffers.specs.Ranges.{replace}
-use Rattle.kcs.specs.Port.{Port, phase_of}
-use Rattle.kcs.specs.Effects.{Effect, on_command, data_effect, left, with_command, told_message}
-use Rattle.kcs.specs.Accesses.{effected, with_control, next_byte, command_written, data_written, message_told}
+use lib.ListN.{length, set}
+use Rattle.kcs.specs.Port.{Port}
+use Rattle.kcs.specs.Effects.{Effect, data_effect, with_command, told_message}
+use Rattle.kcs.specs.Accesses.{effected, with_control, next_byte, data_written, message_told}
 use Rattle.kcs.specs.Bytes.{control_of, port_of, bytes_of}
 use Rattle.kcs.proofs.Places.{changed}
 

@@ -2,11 +2,10 @@
 use mathlib.Core.Path.{◌≡◌, refl}
 use mathlib.Core.Bool.{Bool, true, false, cond, false≢true}
 use Prim.Native.Nat.{ℕ, ◌<◌, ◌≤◌}
-use native.Mathlib.Omega.{arith}
 use lib.Dec.{ltb, leb, eqb}
 use borrow.Author.Tests.{ltb-true, leb-true}
 use Rattle.units.proofs.Cases.{both}
-use Rattle.kcs.specs.Port.{Control, Phase, idle, writing, ending, awaiting, reading, aborting, failed, state_bits}
+use Rattle.kcs.specs.Port.{Control}
 use Rattle.kcs.specs.Effects.{Keeps, Completes, TooLong, Tells, Continues, Finishes, WrongCode, on_data, has_next, data_effect, is_kept}
 use Rattle.kcs.specs.Accesses.{is_taken}
 use Rattle.kcs.proofs.Phases.{each_phase}

@@ -1,4 +1,4 @@
-use Rattle.std.proofs.Common.{ℕ, set, ap, ◌∙◌, sym, cond, eqb, true}
+use Rattle.std.proofs.Common.{set, ap, ◌∙◌, sym, cond, eqb, true}
 use Rattle.kcs.specs.Port.{Port, Phase, aborting}
 use Rattle.kcs.specs.Effects.{Keeps, Completes, TooLong, has_room, has_next, on_data}
 use Rattle.kcs.specs.Accesses.{next_byte}
