@@ -80,14 +80,15 @@ pub(crate) fn respond(port: &mut [u8; SIZE], response: &[u8]) -> bool
         × (result ≡ answers response.now (port_of port.old)) }
 {
     let length = response.len();
-    if !is_taken(Phase::from(port[PHASE]), length) {
+    if !is_taken(port, length) {
         return false;
     }
-    if length == 0 {
-        finish(port);
-        return true;
+    match response.first() {
+        Some(&first) => {
+            put_response(port, response);
+            offer(port, length as u8, first);
+        }
+        None => finish(port),
     }
-    put_response(port, response);
-    offer(port, length as u8, response[0]);
     true
 }

@@ -1,10 +1,10 @@
 // What the rows of the table store: each only the bytes that it may change.
-ghost use Rattle.std.specs.Prelude.{ℕ, ◌+◌, ◌≤◌, ◌≡◌, true, cond, ◌&&◌, eqb, ltb, leb, length};
+ghost use Rattle.std.specs.Prelude.{ℕ, ◌+◌, ◌≤◌, ◌≡◌, true, cond, ◌&&◌, ltb, length};
 ghost use Rattle.buffers.specs.Ranges.{replace};
-ghost use Rattle.kcs.specs.Port.{reading, aborting, failed, phase_of};
+ghost use Rattle.kcs.specs.Port.{reading, aborting, failed};
 ghost use Rattle.kcs.specs.Kinds.{phase_meant, fault_told};
 ghost use Rattle.kcs.specs.Effects.{Keeps, Completes, Finishes, TooLong, has_room, has_next, on_data, left, showing, with_fault, with_place, told_message};
-ghost use Rattle.kcs.specs.Accesses.{effected, with_control, next_byte};
+ghost use Rattle.kcs.specs.Accesses.{effected, with_control, next_byte, is_taken};
 ghost use Rattle.kcs.specs.Bytes.{control_of, port_of, bytes_of};
 
 use crate::phase::{Fault, Phase};
@@ -137,10 +137,10 @@ pub(crate) fn tell(port: &mut [u8; SIZE], byte: u8)
 // ---- the controller answers
 
 // Whether a response of this length is taken: it is awaited, and fits.
-pub(crate) fn is_taken(phase: Phase, length: usize) -> bool
-    ensures { (number : ℕ) → phase_meant phase ≡ phase_of number → result ≡ (leb length 64 && eqb number 3) }
+pub(crate) fn is_taken(port: &[u8; SIZE], length: usize) -> bool
+    ensures { result ≡ is_taken length (control_of port.now) }
 {
-    length <= 64 && phase == Phase::Awaiting
+    length <= 64 && Phase::from(port[PHASE]) == Phase::Awaiting
 }
 
 // A response in its place; it fits there.
