@@ -2,11 +2,10 @@
 use mathlib.Core.Path.{◌≡◌, refl}
 use mathlib.Core.Bool.{Bool, true, false, cond, false≢true}
 use Prim.Native.Nat.{ℕ, ◌<◌, ◌≤◌}
-use native.Mathlib.Omega.{arith}
 use lib.Dec.{ltb, leb, eqb}
 use borrow.Author.Tests.{ltb-true, leb-true}
 use Rattle.units.proofs.Cases.{both}
-use Rattle.kcs.specs.Port.{Control, Phase, idle, writing, ending, awaiting, reading, aborting, failed, state_bits}
+use Rattle.kcs.specs.Port.{Control}
 use Rattle.kcs.specs.Effects.{Keeps, Completes, TooLong, Tells, Continues, Finishes, WrongCode, on_data, has_next, data_effect, is_kept}
 use Rattle.kcs.specs.Accesses.{is_taken}
 use Rattle.kcs.proofs.Phases.{each_phase}
@@ -48,18 +47,3 @@ kept_inside byte c =
     (λ _ e. absurd (none_read (eqb byte 0x68) (has_next c) e))
     (λ _ e. absurd (none_aborted (eqb byte 0x00) e))
     (λ e. absurd (false≢true e))
-
--- ---- the status register
-
-pub state_small : (p : Phase) → state_bits p ≤ 3
-state_small idle = omega arith
-state_small writing = omega arith
-state_small ending = omega arith
-state_small awaiting = omega arith
-state_small reading = omega arith
-state_small aborting = omega arith
-state_small failed = omega arith
-
-pub bit_small : (t : Bool) (value : ℕ) → cond t value 0 ≤ value
-bit_small true value = omega arith
-bit_small false value = omega arith

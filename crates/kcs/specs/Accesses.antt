@@ -1,8 +1,8 @@
 -- Each access of the host, and the controller's answer: what it leaves of the port, and what it gives. 001, 9.5 to 9.9; 02, Ticket 3.
-use Rattle.std.specs.Prelude.{ℕ, Bool, cond, ◌&&◌, List, [], ◌∷◌, eqb, leb, length, get_or, take}
+use Rattle.std.specs.Prelude.{ℕ, Bool, cond, ◌&&◌, List, [], ◌∷◌, eqb, leb, length, get_or, take, Option}
 use Rattle.buffers.specs.Ranges.{replace}
 use Rattle.kcs.specs.Port.{Control, Port, idle, awaiting, reading, phase_of, number_of, is_set, status_of}
-use Rattle.kcs.specs.Effects.{Effect, on_command, has_next, data_effect, left, is_kept, told_length, showing, with_command, with_fault, with_place}
+use Rattle.kcs.specs.Effects.{Effect, on_command, has_next, data_effect, left, is_kept, told_length, told_message, showing, with_command, with_fault, with_place}
 
 -- the port with other controls
 abbrev pub with_control : Control → Port → Port
@@ -58,6 +58,9 @@ data_written byte p = effected (data_effect byte p.control) (next_byte p) byte (
 -- the caller is told the length of the message that this write completes, else 0
 abbrev pub length_told : ℕ → Port → ℕ
 length_told byte p = told_length (data_effect byte p.control) p.control
+
+abbrev pub message_told : ℕ → Port → Option ℕ
+message_told byte p = told_message (data_effect byte p.control) p.control
 
 -- the message: so many bytes from the front of the request
 abbrev pub message : ℕ → Port → List ℕ

@@ -1,5 +1,5 @@
 -- The table of writes: in this phase, this write, what happens; and what each effect leaves. 02, Ticket 3, "House".
-use Rattle.std.specs.Prelude.{ℕ, ◌+◌, Bool, true, false, cond, ◌&&◌, eqb, ltb}
+use Rattle.std.specs.Prelude.{ℕ, ◌+◌, Bool, true, false, cond, ◌&&◌, eqb, ltb, Option, Some, None}
 use Rattle.kcs.specs.Port.{Control, Phase, idle, writing, ending, awaiting, reading, aborting, failed, phase_of, number_of}
 
 -- what a write does
@@ -129,3 +129,7 @@ is_last TooLong = false
 -- the length of the message that a write completes, and 0 with every other write
 abbrev pub told_length : Effect → Control → ℕ
 told_length effect c = cond (is_last effect) (c.length + 1) 0
+
+-- the same as an option: none with every other write
+abbrev pub told_message : Effect → Control → Option ℕ
+told_message effect c = cond (is_last effect) (Some (c.length + 1)) None

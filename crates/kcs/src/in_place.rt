@@ -1,102 +1,56 @@
-// Each access of the host, and the controller's answer, over the port's bytes: a branch stores the bytes that it may change alone.
+// Each access of the host, and the controller's answer, over bytes that the caller lends.
 //
 // A slice that has not 136 bytes is no port: it stays as it is.
 ghost use Rattle.std.specs.Prelude.{◌≡◌, false, length};
-ghost use Rattle.kcs.specs.Effects.{Opens, left};
-ghost use Rattle.kcs.specs.Accesses.{with_control, status_read, byte_read, data_read, command_written, data_written, length_told, answers, answered};
-ghost use Rattle.kcs.specs.Bytes.{control_of, port_of, bytes_of};
+ghost use Rattle.kcs.specs.Accesses.{status_read, byte_read, data_read, command_written, data_written, length_told, answers, answered};
+ghost use Rattle.kcs.specs.Bytes.{port_of, bytes_of};
 
-use crate::rows::{
-    COMMAND, FAULT, FULL, LENGTH, OUTPUT, PHASE, SIZE, bit, finish, is_taken, keep, offer,
-    put_response, read_on, refuse, show, state_bits, tell,
-};
+use crate::accesses::{read_data, read_status, respond, write_command, write_data};
 
-// The status register: the state in bits 7 and 6, C/D# in bit 3, OBF in bit 0.
+// The host reads the status register.
 pub fn read_status_in_place(port: &[u8]) -> u8
     ensures { (length port.now ≡ 136 → result ≡ status_read (port_of port.now))
         × ((length port.now ≡ 136 → ⊥) → result ≡ 0) }
 {
-    if port.len() != SIZE {
-        return 0;
+    match port.as_array() {
+        Some(port) => read_status(port),
+        None => 0,
     }
-    state_bits(port[PHASE]) * 64 + (bit(port[COMMAND], 8) + bit(port[FULL], 1))
 }
 
-// The host reads Data_Out, which clears OBF; where it is clear a read gives 00.
-#[tactic(auto, using(crate::proofs::Places::read_left))]
+// The host reads Data_Out.
 pub fn read_data_in_place(port: &mut [u8]) -> u8
     ensures { (length port.old ≡ 136
         → (port.new ≡ bytes_of (data_read (port_of port.old))) × (result ≡ byte_read (port_of port.old)))
         × ((length port.old ≡ 136 → ⊥) → (port.new ≡ port.old) × (result ≡ 0)) }
 {
-    if port.len() != SIZE {
-        return 0;
+    match port.as_mut_array() {
+        Some(port) => read_data(port),
+        None => 0,
     }
-    let full = port[FULL];
-    port[FULL] = 0;
-    if full == 0 { 0 } else { port[OUTPUT] }
 }
 
-// The host writes to the command register: 60 and 61 are taken in every phase, 62 in the write phase that 61 opens.
+// The host writes to the command register.
 pub fn write_command_in_place(port: &mut [u8], code: u8)
     ensures { (length port.old ≡ 136 → port.new ≡ bytes_of (command_written code (port_of port.old)))
         × ((length port.old ≡ 136 → ⊥) → port.new ≡ port.old) }
 {
-    if port.len() != SIZE {
-        return;
-    }
-    let phase = port[PHASE];
-    port[COMMAND] = 1;
-    match code {
-        0x60 => show(port, 5, 0),
-        0x61 => open(port),
-        0x62 => {
-            if phase == 1 {
-                show(port, 2, 0);
-            } else {
-                refuse(port, 2);
-            }
-        }
-        _ => refuse(port, 2),
+    if let Some(port) = port.as_mut_array() {
+        write_command(port, code);
     }
 }
 
-// A write phase begins, and the status that 60 tells is that of an abort.
-fn open(port: &mut [u8])
-    requires { length port.old ≡ 136 }
-    ensures { port.new ≡ bytes_of (with_control (left Opens 0x00 (control_of port.old)) (port_of port.old)) }
-{
-    port[LENGTH] = 0;
-    port[FAULT] = 1;
-    show(port, 1, 0);
-}
-
-// The host writes to Data_In, by the phase that the byte comes in; the answer is the length of the message that this completed, or 0.
+// The host writes to Data_In; the answer is the length of the message that this completed, or 0.
+#[tactic(auto, using(crate::proofs::Phases::told_number))]
 pub fn write_data_in_place(port: &mut [u8], byte: u8) -> u8
     ensures { (length port.old ≡ 136
         → (port.new ≡ bytes_of (data_written byte (port_of port.old))) × (result ≡ length_told byte (port_of port.old)))
         × ((length port.old ≡ 136 → ⊥) → (port.new ≡ port.old) × (result ≡ 0)) }
 {
-    if port.len() != SIZE {
-        return 0;
-    }
-    let phase = port[PHASE];
-    port[COMMAND] = 0;
-    // one arm for both phases of a request: with two, this becomes a jump through a table, which is slower
-    match phase {
-        1 | 2 => keep(port, byte, phase == 2),
-        4 => {
-            read_on(port, byte);
-            0
-        }
-        5 => {
-            tell(port, byte);
-            0
-        }
-        _ => {
-            refuse(port, 2);
-            0
-        }
+    // a number, and no Option: the C interface hands it on
+    match port.as_mut_array() {
+        Some(port) => write_data(port, byte).unwrap_or(0),
+        None => 0,
     }
 }
 
@@ -107,18 +61,8 @@ pub fn respond_in_place(port: &mut [u8], response: &[u8]) -> bool
         × (result ≡ answers response.now (port_of port.old)))
         × ((length port.old ≡ 136 → ⊥) → (port.new ≡ port.old) × (result ≡ false)) }
 {
-    if port.len() != SIZE {
-        return false;
+    match port.as_mut_array() {
+        Some(port) => respond(port, response),
+        None => false,
     }
-    let length = response.len();
-    if !is_taken(port[PHASE], length) {
-        return false;
-    }
-    if length == 0 {
-        finish(port);
-        return true;
-    }
-    put_response(port, response);
-    offer(port, length as u8, response[0]);
-    true
 }

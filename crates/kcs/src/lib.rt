@@ -1,16 +1,18 @@
 // The controller's side of a KCS port (IPMI, section 9): the port's record, and a call for each access of the host and for the
 // controller's answer.
 //
-// The record is handed in and back by value, or lent as its bytes (`in_place`). Every record and every byte gets an answer, also
-// records that no access leaves.
+// The record is a `Port`, or lent as its bytes (`in_place`). Every record and every byte gets an answer, also records that no
+// access leaves.
 #![tactic(auto)]
 
+mod accesses;
 mod in_place;
+mod phase;
 mod rows;
 
 ghost use Rattle.std.specs.Prelude.{◌≡◌};
 ghost use Rattle.kcs.specs.Port.{fresh};
-ghost use Rattle.kcs.specs.Accesses.{status_read, byte_read, data_read, command_written, data_written, length_told, answers, answered};
+ghost use Rattle.kcs.specs.Accesses.{status_read, byte_read, data_read, command_written, data_written, message_told, answers, answered};
 ghost use Rattle.kcs.specs.Bytes.{port_of, bytes_of};
 
 pub use in_place::{
@@ -24,85 +26,50 @@ pub struct Port {
     pub bytes: [u8; 136],
 }
 
-// What a read of Data_Out gives.
-#[derive(Clone, Copy)]
-pub struct DataRead {
-    pub port: Port,
-    pub byte: u8,
-}
-
-// What a write of Data_In gives: the length of the message that it completed, or 0.
-#[derive(Clone, Copy)]
-pub struct DataWritten {
-    pub port: Port,
-    pub length: u8,
-}
-
-// What an answer gives: whether it was taken.
-#[derive(Clone, Copy)]
-pub struct Answered {
-    pub port: Port,
-    pub taken: bool,
-}
-
-// A fresh port.
-pub fn new_port() -> Port
-    ensures { result.bytes ≡ bytes_of fresh }
-{
-    Port { bytes: [0; 136] }
-}
-
-// The host reads the status register.
-pub fn read_status(port: Port) -> u8
-    ensures { result ≡ status_read (port_of port.bytes) }
-{
-    let bytes = port.bytes;
-    read_status_in_place(&bytes)
-}
-
-// The host reads Data_Out.
-pub fn read_data(port: Port) -> DataRead
-    ensures { (result.port.bytes ≡ bytes_of (data_read (port_of port.bytes))) × (result.byte ≡ byte_read (port_of port.bytes)) }
-{
-    let mut bytes = port.bytes;
-    let byte = read_data_in_place(&mut bytes);
-    DataRead {
-        port: Port { bytes },
-        byte,
+impl Port {
+    // A fresh port.
+    #[tactic(auto, unfolding(crate::specs::Port::fresh))]
+    pub fn new() -> Port
+        ensures { result.bytes ≡ bytes_of fresh }
+    {
+        Port { bytes: [0; 136] }
     }
-}
 
-// The host writes to the command register.
-pub fn write_command(port: Port, code: u8) -> Port
-    ensures { result.bytes ≡ bytes_of (command_written code (port_of port.bytes)) }
-{
-    let mut bytes = port.bytes;
-    write_command_in_place(&mut bytes, code);
-    Port { bytes }
-}
-
-// The host writes to Data_In.
-pub fn write_data(port: Port, byte: u8) -> DataWritten
-    ensures { (result.port.bytes ≡ bytes_of (data_written byte (port_of port.bytes)))
-        × (result.length ≡ length_told byte (port_of port.bytes)) }
-{
-    let mut bytes = port.bytes;
-    let length = write_data_in_place(&mut bytes, byte);
-    DataWritten {
-        port: Port { bytes },
-        length,
+    // The host reads the status register.
+    pub fn read_status(&self) -> u8
+        ensures { result ≡ status_read (port_of self.now.bytes) }
+    {
+        accesses::read_status(&self.bytes)
     }
-}
 
-// The controller answers the message that was handed over.
-pub fn respond(port: Port, response: &[u8]) -> Answered
-    ensures { (result.port.bytes ≡ bytes_of (answered response.now (port_of port.bytes)))
-        × (result.taken ≡ answers response.now (port_of port.bytes)) }
-{
-    let mut bytes = port.bytes;
-    let taken = respond_in_place(&mut bytes, response);
-    Answered {
-        port: Port { bytes },
-        taken,
+    // The host reads Data_Out.
+    pub fn read_data(&mut self) -> u8
+        ensures { (self.new.bytes ≡ bytes_of (data_read (port_of self.old.bytes)))
+            × (result ≡ byte_read (port_of self.old.bytes)) }
+    {
+        accesses::read_data(&mut self.bytes)
+    }
+
+    // The host writes to the command register.
+    pub fn write_command(&mut self, code: u8)
+        ensures { self.new.bytes ≡ bytes_of (command_written code (port_of self.old.bytes)) }
+    {
+        accesses::write_command(&mut self.bytes, code);
+    }
+
+    // The host writes to Data_In; the answer is the length of the message that this completed.
+    pub fn write_data(&mut self, byte: u8) -> Option<u8>
+        ensures { (self.new.bytes ≡ bytes_of (data_written byte (port_of self.old.bytes)))
+            × (result ≡ message_told byte (port_of self.old.bytes)) }
+    {
+        accesses::write_data(&mut self.bytes, byte)
+    }
+
+    // The controller answers the message that was handed over; the answer is whether it was taken.
+    pub fn respond(&mut self, response: &[u8]) -> bool
+        ensures { (self.new.bytes ≡ bytes_of (answered response.now (port_of self.old.bytes)))
+            × (result ≡ answers response.now (port_of self.old.bytes)) }
+    {
+        accesses::respond(&mut self.bytes, response)
     }
 }

@@ -30,7 +30,7 @@ pub fn kcs_write_command(port: &mut [u8; 136], code: u8)
     write_command_in_place(port, code);
 }
 
-// The host writes to Data_In; the answer is the length of the message that this completed, or 0.
+// The host writes to Data_In; the answer is the length of the message that this completed, or 0: C has no Option.
 pub fn kcs_write_data(port: &mut [u8; 136], byte: u8) -> u8
     ensures { (port.new ≡ bytes_of (data_written byte (port_of port.old)))
         × (result ≡ length_told byte (port_of port.old)) }

@@ -12,7 +12,7 @@ ghost use Rattle.kcsboard.specs.Record.{record_of};
 
 pub use accesses::{kcs_read_data, kcs_respond, kcs_status, kcs_write_command, kcs_write_data};
 
-// A port as C keeps it.
+// A port as C keeps it: bytes alone, also for the phase and the flags, since C may set any.
 #[repr(C)]
 #[derive(Clone, Copy)]
 pub struct Record {
@@ -35,6 +35,7 @@ pub struct Record {
 }
 
 // A fresh port.
+#[tactic(auto, unfolding(kcs::specs::Port::fresh))]
 pub fn kcs_fresh() -> Record
     ensures { result ≡ record_of fresh }
 {

@@ -12,7 +12,7 @@ returns-then-not-last c =
     let a = c.args in
     let xs = a.port.now in
     let n = get_or xs 5 0 in
-    let kept = kept_port n (n + 1) a.byte xs c.requires (omega arith) in
+    let kept = kept_port n (n + 1) a.byte xs c.told-port (omega arith) in
     rw
     (lt-ltb n 64 (omega arith), c.if-not-last.true)
     (λ given. c.show.ensures ∙ ap (λ (p : Port). bytes_of (with_control (shown 1 0x00 p.control) p)) kept, refl)
@@ -22,9 +22,9 @@ returns c =
     let a = c.args in
     let xs = a.port.now in
     let n = get_or xs 5 0 in
-    let kept = kept_port n (n + 1) a.byte xs c.requires (omega arith) in
+    let kept = kept_port n (n + 1) a.byte xs c.told-port (omega arith) in
     let ys = set (set xs (8 + n) a.byte) 5 (n + 1) in
-    let size : length ys ≡ 136 = kept_size xs (8 + n) (n + 1) a.byte ∙ c.requires in
+    let size : length ys ≡ 136 = kept_size xs (8 + n) (n + 1) a.byte ∙ c.told-port in
     rw
     (lt-ltb n 64 (omega arith), c.if-not-last.false) (
       λ given.

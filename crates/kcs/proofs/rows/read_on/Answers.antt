@@ -16,5 +16,5 @@ returns-then-has_next c =
     rw
     (eq-eqb c.args.byte 0x68 c.if-byte-ne104.false, more)
     (c.show.ensures
-    ∙ after (shown 4 (get_or xs (72 + n) 0)) (λ (ys : List ℕ). set ys 6 (n + 1)) (λ k. with_place (n + 1) k.end k) (λ k t. refl) xs c.requires
+    ∙ after (shown 4 (get_or xs (72 + n) 0)) (λ (ys : List ℕ). set ys 6 (n + 1)) (λ k. with_place (n + 1) k.end k) (λ k t. refl) xs c.told-port
     ∙ ap (λ (b : ℕ). bytes_of (with_control (shown 4 b (with_place (n + 1) (get_or xs 7 0) (control_of xs))) (port_of xs))) (sym (range_at 72 64 xs n inside)))
