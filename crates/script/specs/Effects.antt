@@ -3,8 +3,7 @@ use Rattle.std.specs.Prelude.{ℕ, ◌+◌, min, Bool, true, false, cond, ◌&&�
 use Rattle.units.specs.Units.{to_bytes}
 use Rattle.buffers.specs.Ranges.{replace}
 use Rattle.session.specs.declared.Session.{Session}
-use Rattle.session.specs.declared.suspension.Suspension.{Suspension}
-use Rattle.session.specs.Suspension.{suspended, resumed, resumed_changed}
+use Rattle.session.specs.Suspension.{Suspension, suspended, resumed, resumed_changed}
 use Rattle.session.specs.Machine.{Setup, Machine, lent, holding}
 use Rattle.refusals.specs.Refusals.{is_write}
 use Rattle.mailbox.specs.Commands.{Outcome}

@@ -6,12 +6,13 @@
 ghost use Rattle.std.specs.Prelude.{◌≡◌, length, IfSome};
 ghost use Rattle.std.specs.Option.{option_map};
 ghost use Rattle.session.specs.Machine.{set_up, lent};
+ghost use Rattle.session.specs.Suspension.{left};
 ghost use Rattle.script.specs.Effects.{none_worn, fill_allowed, filled, silent, effected, effect, effect_read};
 ghost use Rattle.records.specs.Records.{next_of, record_at};
 
 use mailbox::command;
 use records::{Record, read_record};
-use session::{Board, Session, Suspension, Window, resume, resume_changed, suspend};
+use session::{Board, Session, Window, resume, resume_changed, suspend};
 use units::Blocks;
 
 // What a record that keeps the rules leaves: the session, and the registers that answer a command.
@@ -77,17 +78,17 @@ pub fn serve(
             count,
             value,
         } => fill_window(session, memory, offset, count, value).then_some(silent(session)),
-        Record::Suspend => Some(moved(suspend(session))),
-        Record::Resume => Some(moved(resume(session))),
-        Record::ResumeChanged => Some(moved(resume_changed(session))),
+        Record::Suspend => Some(moved(session, suspend(session))),
+        Record::Resume => Some(moved(session, resume(session))),
+        Record::ResumeChanged => Some(moved(session, resume_changed(session))),
     }
 }
 
 // Whether suspend or resume answered yes is not asked.
-fn moved(suspension: Suspension) -> Served
-    ensures { result ≡ silent suspension.session }
+fn moved(before: Session, after: Option<Session>) -> Served
+    ensures { result ≡ silent (left before after).session }
 {
-    silent(suspension.session)
+    silent(after.unwrap_or(before))
 }
 
 // No command was asked, and no registers answer.
@@ -106,7 +107,7 @@ pub fn fill_window(session: Session, memory: &mut [u8], offset: u32, count: u32,
     ensures allowed { result ≡ fill_allowed session (length memory.old) offset count }
     ensures filled { memory.new ≡ filled session offset count value memory.old }
 {
-    if !matches!(session.window, Window::Write) {
+    if session.window != Window::Write {
         return false;
     }
     let end = u64::from(offset) + u64::from(count);

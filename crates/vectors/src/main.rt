@@ -122,30 +122,33 @@ fn chip_actions(rt: &impl Print) -> io::Result<()> {
 }
 
 // What an access to a KCS port gave, and the status after it.
-fn port_line(rt: &impl Print, given: u8, port: kcs::Port) -> io::Result<()> {
-    println!(rt; "kcs {given} {} ", kcs::read_status(port))
+fn port_line(rt: &impl Print, given: u8, port: &kcs::Port) -> io::Result<()> {
+    println!(rt; "kcs {given} {} ", port.read_status())
 }
 
-// A message of two bytes, handed in and back by value, and its answer of two.
+// A byte that the host writes: the length of the message that it completed, or 0.
+fn data_line(rt: &impl Print, port: &mut kcs::Port, byte: u8) -> io::Result<()> {
+    let length = port.write_data(byte).unwrap_or(0);
+    port_line(rt, length, port)
+}
+
+// A message of two bytes, and its answer of two.
 fn kcs_exchange(rt: &impl Print) -> io::Result<()> {
-    let opened = kcs::write_command(kcs::new_port(), 0x61);
-    port_line(rt, 0, opened)?;
-    let kept = kcs::write_data(opened, 0x18);
-    port_line(rt, kept.length, kept.port)?;
-    let closed = kcs::write_command(kept.port, 0x62);
-    port_line(rt, 0, closed)?;
-    let last = kcs::write_data(closed, 0x01);
-    port_line(rt, last.length, last.port)?;
-    let answered = kcs::respond(last.port, b"\x1c\x01");
-    port_line(rt, answered.taken as u8, answered.port)?;
-    let first = kcs::read_data(answered.port);
-    port_line(rt, first.byte, first.port)?;
-    let asked = kcs::write_data(first.port, 0x68);
-    port_line(rt, asked.length, asked.port)?;
-    let second = kcs::read_data(asked.port);
-    port_line(rt, second.byte, second.port)?;
-    let finished = kcs::write_data(second.port, 0x68);
-    port_line(rt, finished.length, finished.port)?;
-    let dummy = kcs::read_data(finished.port);
-    port_line(rt, dummy.byte, dummy.port)
+    let mut port = kcs::Port::new();
+    port.write_command(0x61);
+    port_line(rt, 0, &port)?;
+    data_line(rt, &mut port, 0x18)?;
+    port.write_command(0x62);
+    port_line(rt, 0, &port)?;
+    data_line(rt, &mut port, 0x01)?;
+    let taken = port.respond(b"\x1c\x01");
+    port_line(rt, taken as u8, &port)?;
+    let first = port.read_data();
+    port_line(rt, first, &port)?;
+    data_line(rt, &mut port, 0x68)?;
+    let second = port.read_data();
+    port_line(rt, second, &port)?;
+    data_line(rt, &mut port, 0x68)?;
+    let dummy = port.read_data();
+    port_line(rt, dummy, &port)
 }
