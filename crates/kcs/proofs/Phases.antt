@@ -15,7 +15,7 @@ use Rattle.kcs.specs.declared.phase.Phase.TheVariants.{Idle, Writing, Ending, Aw
 use Rattle.kcs.specs.Kinds.{phase_meant}
 use Rattle.kcs.specs.Port.{Port, Phase, idle, writing, ending, awaiting, reading, aborting, failed, phase_of, number_of}
 use Rattle.units.proofs.Cases.{chosen}
-use Rattle.kcs.specs.Effects.{Keeps, Completes, TooLong, Tells, Continues, Finishes, WrongCode, on_end, on_data, left, told_message}
+use Rattle.kcs.specs.Effects.{Keeps, Completes, TooLong, Tells, WrongCode, on_end, on_data, left, told_message}
 use Rattle.kcs.specs.Accesses.{effected, with_control}
 use Rattle.kcs.specs.Bytes.{}
 
@@ -55,15 +55,7 @@ pub kept_data
 kept_data phase last n room more byte (inl e) same meant = rw (sym meant, same, e) refl
 kept_data phase last n room more byte (inr e) same meant = rw (sym meant, same, e) refl
 
--- what 68 and 00 do keeps no byte and completes no message
-pub reading_step
-    : (asked more : Bool) (given byte : ℕ) (p : Port)
-    → (with_control (left (cond asked (cond more Continues Finishes) WrongCode) given p.control) p ≡ effected (cond asked (cond more Continues Finishes) WrongCode) given byte p)
-    × (None ≡ told_message (cond asked (cond more Continues Finishes) WrongCode) p.control)
-reading_step true true given byte p = (refl, refl)
-reading_step true false given byte p = (refl, refl)
-reading_step false more given byte p = (refl, refl)
-
+-- what 00 does keeps no byte and completes no message
 pub aborting_step
     : (asked : Bool) (given byte : ℕ) (p : Port)
     → (with_control (left (cond asked Tells WrongCode) given p.control) p ≡ effected (cond asked Tells WrongCode) given byte p)
