@@ -4,16 +4,16 @@ use mathlib.Core.Bool.{Bool, true, false, ◌&&◌, ◌||◌, true≢false}
 use mathlib.Core.List.{List, [], ◌∷◌, ◌++◌, append-nil}
 use mathlib.Core.Logic.{⊎_elim}
 use Prim.Native.Nat.{ℕ, zero, suc, ◌+◌, ◌-◌, ◌≤◌, ◌<◌}
-use native.Mathlib.Nat.{not-suc-le-zero, le_of_suc-le-suc}
 use native.Mathlib.Omega.{arith}
 use lib.Dec.{ltb}
 use lib.ListN.{length, get_or, take, drop, replicate, length-replicate, drop_of_length-le, take-append-drop}
-use lib.Seq.{length-take-le}
-use borrow.Author.Tests.{lt-ltb, le-ltb, ltb-false}
+use lib.Seq.{length-take-le, drop-cons}
+use Rattle.std.proofs.lemmas.Bool.Decides.{nat_tests}
+use borrow.Author.Tests.{lt-ltb, ltb-false}
 use Rattle.std.specs.Prelude.{cond, None, Some, is_some}
 use Rattle.session.specs.Record.{clean}
 use Rattle.flush.specs.Window.{left_marks}
-use Rattle.units.proofs.Cases.{decided, below_or, both}
+use Rattle.units.proofs.Cases.{decided, both}
 use Rattle.buffers.specs.Ranges.{replace}
 use Rattle.session.specs.Marks.{erases}
 use Rattle.flush.specs.Actions.{Action, erase, pages_from, block_actions, actions_from, flush_actions}
@@ -22,17 +22,7 @@ use Rattle.flush.proofs.Lists.{by_asked, clear_none, actions_append}
 
 -- one more on both sides
 pub less_suc : (a b : ℕ) → ltb (suc a) (suc b) ≡ ltb a b
-less_suc a b =
-    ⊎_elim
-    (λ (h : a < b). lt-ltb (suc a) (suc b) (omega arith) ∙ sym (lt-ltb a b h))
-    (λ (h : b ≤ a). le-ltb (suc a) (suc b) (omega arith) ∙ sym (le-ltb a b h))
-    (below_or a b)
-
--- a mark, and those behind it
-from_mark : (i : ℕ) (marks : List ℕ) → i < length marks → drop i marks ≡ get_or marks i 0 ∷ drop (suc i) marks
-from_mark i [] h = absurd (not-suc-le-zero h)
-from_mark zero (mark ∷ marks) h = refl
-from_mark (suc i) (mark ∷ marks) h = from_mark i marks (le_of_suc-le-suc h)
+less_suc a b = grind (arith, nat_tests)
 
 -- ---- lists of actions
 module _ (worn : List ℕ) where
@@ -147,12 +137,12 @@ module _ (worn : List ℕ) where
 
     pub finished_here : i < length marks → (erases (get_or marks i 0) && is_worn worn i) ≡ true → finished_from worn i (drop i marks) ≡ 0
     unfolding finished_from
-    finished_here h t = ap (finished_from worn i) (from_mark i marks h) ∙ rw t refl
+    finished_here h t = ap (finished_from worn i) (drop-cons marks i 0 h) ∙ rw t refl
 
     pub finished_past : i < length marks → (erases (get_or marks i 0) && is_worn worn i) ≡ false
         → finished_from worn i (drop i marks) ≡ suc (finished_from worn (suc i) (drop (suc i) marks))
     unfolding finished_from
-    finished_past h t = ap (finished_from worn i) (from_mark i marks h) ∙ rw t refl
+    finished_past h t = ap (finished_from worn i) (drop-cons marks i 0 h) ∙ rw t refl
 
   -- the actions before the first failure are those of the blocks that are finished
   until_from : (b : ℕ) (marks : List ℕ) → until_failure worn (actions_from b marks) ≡ actions_from b (take (finished_from worn b marks) marks)

@@ -135,9 +135,6 @@ erased_nth : (b k : ℕ) → k < 1 → take 1 (drop k (erase b ∷ [])) ≡ nth_
 erased_nth b zero h = refl
 erased_nth b (suc k) h = absurd (omega arith)
 
-pub start_most : (mark : ℕ) → start_of mark ≤ 1
-start_most mark = chosen (λ n. n ≤ 1) (erases mark) 0 1 (λ _. omega arith) (λ _. omega arith)
-
 -- counted from the action that the mark begins with
 from_start : {t : Bool} (mark k : ℕ) → erases mark ≡ t → start_of mark + k ≡ cond t 0 1 + k
 from_start mark k e = ap (λ (s : Bool). cond s 0 1 + k) e
@@ -202,7 +199,6 @@ count_most mark =
     ⊎_elim (λ (u : eqb mark 2 ≡ true). rw (t, u) (omega arith)) (λ (u : eqb mark 2 ≡ false). rw (t, u) (omega arith)) (decided (eqb mark 2)))
     (decided (eqb mark 1))
 
--- "at most 1,088": 17 for each block of a window of up to 64
 -- marks that are all 0 have none
 none_marked_lem : (b : ℕ) (ms : List ℕ) → marks_sound zero ms ≡ true → actions_from b ms ≡ []
 unfolding actions_from
@@ -232,6 +228,7 @@ flush_uncounted ms e =
     empty [] e = refl
     empty (action ∷ actions) e = absurd (omega arith)
 
+-- "at most 1,088": 17 for each block of a window of up to 64
 pub flush_few : (n : ℕ) (ms : List ℕ) → marks_sound n ms ≡ true → length (flush_actions ms) ≤ 17 * n
 unfolding flush_actions
 flush_few n ms e = actions_few n 0 ms e
