@@ -9,22 +9,22 @@ ghost use Rattle.messages.specs.Lengths.{asked, told};
 pub(crate) fn request_bytes(code: u8, version: u8) -> Option<u8>
     ensures { result ≡ asked (row_of code version) }
 {
-    match (code, version) {
-        (1, 0..=2) => Some(0),
-        (2, 0..=2) => Some(1),
-        (3, 1..=2) => Some(0),
-        (4, 1) => Some(2),
-        (4, 2) => Some(4),
-        (5, 1) => Some(0),
-        (5, 2) => Some(1),
-        (6, 1) => Some(2),
-        (6, 2) => Some(4),
-        (7, 1) => Some(6),
-        (7, 2) => Some(4),
-        (8, 1) => Some(6),
-        (8, 2) => Some(0),
-        (9, 0..=2) => Some(1),
-        (10, 2) => Some(4),
+    match (version, code) {
+        (0..=2, 1) => Some(0),
+        (0..=2, 2) => Some(1),
+        (1..=2, 3) => Some(0),
+        (1, 4) => Some(2),
+        (2, 4) => Some(4),
+        (1, 5) => Some(0),
+        (2, 5) => Some(1),
+        (1, 6) => Some(2),
+        (2, 6) => Some(4),
+        (1, 7) => Some(6),
+        (2, 7) => Some(4),
+        (1, 8) => Some(6),
+        (2, 8) => Some(0),
+        (0..=2, 9) => Some(1),
+        (2, 10) => Some(4),
         _ => None,
     }
 }
@@ -33,13 +33,13 @@ pub(crate) fn request_bytes(code: u8, version: u8) -> Option<u8>
 pub(crate) fn response_bytes(code: u8, version: u8) -> u8
     ensures { result ≡ told (row_of code version) }
 {
-    match (code, version) {
-        (2, 1) => 5,
+    match (version, code) {
+        (1, 2) => 5,
         (2, 2) => 4,
-        (3, 1) => 8,
-        (3, 2) => 4,
-        (4 | 6, 1) => 2,
-        (4 | 6, 2) => 6,
+        (1, 3) => 8,
+        (2, 3) => 4,
+        (1, 4 | 6) => 2,
+        (2, 4 | 6) => 6,
         _ => 0,
     }
 }

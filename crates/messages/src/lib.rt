@@ -27,6 +27,7 @@ pub enum Refusal {
 }
 
 // A response: its bytes, zero behind them, and how many they are.
+// A buffer with its length: C's MessageReply has these two, and there is no heap for a Vec.
 #[derive(Clone, Copy)]
 pub struct Response {
     pub bytes: [u8; 16],

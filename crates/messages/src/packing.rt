@@ -83,9 +83,11 @@ fn values_of(code: u8, version: u8, registers: [u8; 16]) -> [u8; 11]
     }
     let count = response_bytes(code, version) as usize;
     for place in 0..11 {
-        if place < count {
-            values[place] = registers[2 + place];
-        }
+        values[place] = if place < count {
+            registers[2 + place]
+        } else {
+            0
+        };
     }
     values
 }
