@@ -1,34 +1,38 @@
 -- The rows of the table that an arm of the decision is, as equations that the check uses at that arm.
-use Rattle.std.proofs.Common.{◌≡◌, ◌≤◌, ℕ, List, get_or, sym, true, arith}
-use Rattle.session.specs.declared.Session.{Session}
-use Rattle.session.specs.Machine.{Setup, lent}
-use Rattle.soundness.specs.Soundness.{sound_in}
-use Rattle.mailbox.specs.Table.{create_read_window, create_write_window, erase, unknown}
-use Rattle.mailbox.specs.Mediator.{command_at, mediate, obeyed}
-use Rattle.mailbox.proofs.Mediating.{row_at, past_table, unknown_at}
+use Rattle.std.proofs.Common.{◌≡◌, ◌≤◌, ℕ, List, get_or, sym, ap, ◌∙◌, arith}
+use Rattle.mailbox.specs.Table.{Command, create, erase, unknown}
+use Rattle.session.specs.declared.Window.TheVariants.{Read, Write}
+use Rattle.registers.specs.Registers.{command_of}
+use Rattle.mailbox.specs.declared.call.Call.{Call}
+use Rattle.mailbox.specs.Mediator.{command_at, command_in}
+use Rattle.mailbox.specs.Calls.{obeyed_by}
+use Rattle.mailbox.proofs.Mediating.{past_table}
 
-module _ (setup : Setup) (registers : List ℕ) (s : Session) (flash worn memory : List ℕ)
-    (sound : sound_in setup (lent s flash worn memory) ≡ true) where
+module _ (call : Call) (flash worn memory : List ℕ) where
+  -- the row of a code is what the registers hold
+  pub at_row : (n : ℕ) → get_or call.registers 0 0 ≡ n → obeyed_by (command_at n) call flash worn memory ≡ obeyed_by (command_in call.registers) call flash worn memory
+  at_row n e = ap (λ (k : ℕ). obeyed_by (command_at k) call flash worn memory) (sym e)
+
   -- code 4
-  pub read_row : get_or registers 0 0 ≡ 4
-      → mediate setup registers (lent s flash worn memory) ≡ obeyed create_read_window true setup registers (lent s flash worn memory)
+  pub read_row : get_or call.registers 0 0 ≡ 4
+      → obeyed_by (create (command_of call.registers) Read) call flash worn memory ≡ obeyed_by (command_in call.registers) call flash worn memory
   unfolding command_at
-  read_row e = sym (row_at 4 setup registers (lent s flash worn memory) e sound)
+  read_row e = ap (λ (k : ℕ). obeyed_by (create k Read) call flash worn memory) e ∙ at_row 4 e
 
   -- code 6
-  pub write_row : get_or registers 0 0 ≡ 6
-      → mediate setup registers (lent s flash worn memory) ≡ obeyed create_write_window true setup registers (lent s flash worn memory)
+  pub write_row : get_or call.registers 0 0 ≡ 6
+      → obeyed_by (create (command_of call.registers) Write) call flash worn memory ≡ obeyed_by (command_in call.registers) call flash worn memory
   unfolding command_at
-  write_row e = sym (row_at 6 setup registers (lent s flash worn memory) e sound)
+  write_row e = ap (λ (k : ℕ). obeyed_by (create k Write) call flash worn memory) e ∙ at_row 6 e
 
   -- code 10
-  pub erase_row : get_or registers 0 0 ≡ 10 → mediate setup registers (lent s flash worn memory) ≡ obeyed erase true setup registers (lent s flash worn memory)
+  pub erase_row : get_or call.registers 0 0 ≡ 10 → obeyed_by erase call flash worn memory ≡ obeyed_by (command_in call.registers) call flash worn memory
   unfolding command_at
-  erase_row e = sym (row_at 10 setup registers (lent s flash worn memory) e sound)
+  erase_row e = at_row 10 e
 
   -- a code past the table
-  pub past_row : 11 ≤ get_or registers 0 0 → mediate setup registers (lent s flash worn memory) ≡ obeyed unknown true setup registers (lent s flash worn memory)
+  pub past_row : 11 ≤ get_or call.registers 0 0 → obeyed_by unknown call flash worn memory ≡ obeyed_by (command_in call.registers) call flash worn memory
   past_row past =
-      sym (unknown_at setup registers (lent s flash worn memory)
-      (past_table (get_or registers 0 0) (λ e. omega arith) (λ e. omega arith) (λ e. omega arith) (λ e. omega arith) (λ e. omega arith)
-      (λ e. omega arith) (λ e. omega arith) (λ e. omega arith) (λ e. omega arith) (λ e. omega arith)) sound)
+      ap (λ (c : Command). obeyed_by c call flash worn memory)
+      (sym (past_table (get_or call.registers 0 0) (λ e. omega arith) (λ e. omega arith) (λ e. omega arith) (λ e. omega arith) (λ e. omega arith)
+      (λ e. omega arith) (λ e. omega arith) (λ e. omega arith) (λ e. omega arith) (λ e. omega arith)))

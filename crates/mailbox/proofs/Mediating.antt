@@ -81,7 +81,13 @@ pub unsound_as : (setup : Setup) (registers : List ℕ) (m : Machine) → sound_
 unfolding mediate obeyed answer_to reason_for
 unsound_as setup registers m e = rw e
 
--- where they are, the row of the code that the registers hold
+-- where they are, what the row of the code leaves
+pub mediated_by : (setup : Setup) (registers : List ℕ) (m : Machine) → sound_in setup m ≡ true
+    → obeyed (command_in registers) true setup registers m ≡ mediate setup registers m
+unfolding mediate
+mediated_by setup registers m s = ap (λ (b : Bool). obeyed (command_in registers) b setup registers m) (sym s)
+
+-- and the row of the code that the registers hold
 pub row_at : (n : ℕ) (setup : Setup) (registers : List ℕ) (m : Machine) → command_of registers ≡ n → sound_in setup m ≡ true
     → obeyed (command_at n) true setup registers m ≡ mediate setup registers m
 unfolding mediate

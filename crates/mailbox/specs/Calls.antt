@@ -1,7 +1,7 @@
 -- For private functions: what a command leaves of a call as the code has it, once the lent sizes, B and the session are sound.
 use Rattle.std.specs.Prelude.{true, Result, Ok, Err, List, ℕ}
 use Rattle.session.specs.Machine.{set_up, lent}
-use Rattle.mailbox.specs.declared.calls.Call.{Call}
+use Rattle.mailbox.specs.declared.call.Call.{Call}
 use Rattle.mailbox.specs.declared.Answer.{Answer}
 use Rattle.refusals.specs.declared.Reason.{Reason}
 use Rattle.refusals.specs.Refusals.{code_for}

@@ -5,7 +5,7 @@ ghost use Rattle.flush.specs.Window.{left_marks};
 ghost use Rattle.mailbox.specs.Commands.{answer_with, answered};
 
 use crate::Answer;
-use crate::calls::Call;
+use crate::call::Call;
 use flush::left_marks;
 use registers::{NO_ARGUMENTS, replied};
 use session::{Session, without_window};
@@ -37,7 +37,12 @@ impl Call {
         ensures { result ≡ answered (with_marks (left_marks (Some failed) self.session.marks) self.session) self.registers 3 [] actions }
     {
         let left = left_marks(self.session.marks, Some(failed));
-        self.answer(with_marks(self.session, left), WRITE_ERROR, NO_ARGUMENTS, actions)
+        self.answer(
+            with_marks(self.session, left),
+            WRITE_ERROR,
+            NO_ARGUMENTS,
+            actions,
+        )
     }
 
     // The window is dropped after so many actions.

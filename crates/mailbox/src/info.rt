@@ -7,7 +7,7 @@ ghost use Rattle.mailbox.specs.Table.{get_info, get_flash_info};
 ghost use Rattle.mailbox.specs.Calls.{ran, obeyed_by};
 
 use crate::Answer;
-use crate::calls::Call;
+use crate::call::Call;
 use refusals::{Needs, Reason};
 use session::with_version;
 use units::{Blocks, Bytes};

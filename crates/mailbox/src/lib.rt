@@ -4,19 +4,25 @@
 #![tactic(auto)]
 
 mod answers;
+mod call;
 mod calls;
 mod info;
 mod marks;
 mod windows;
 
-ghost use Rattle.std.specs.Prelude.{◌≡◌};
+ghost use Rattle.std.specs.Prelude.{◌≡◌, ◌≤◌, true, length};
+ghost use Rattle.units.specs.Units.{to_bytes};
 ghost use Rattle.session.specs.Machine.{set_up, lent};
+ghost use Rattle.soundness.specs.Soundness.{size_sound};
 ghost use Rattle.mailbox.specs.Commands.{outcome};
-ghost use Rattle.mailbox.specs.Mediator.{mediate};
+ghost use Rattle.mailbox.specs.Mediator.{command_in, mediate};
+ghost use Rattle.mailbox.specs.Calls.{ran, obeyed_by};
 
-use calls::{Call, unknown};
+use call::Call;
+use calls::unknown;
 use info::{get_flash_info, get_info};
 use marks::{acknowledge, erase, flush, mark_dirty};
+use refusals::Reason;
 use registers::{NO_ARGUMENTS, replied};
 use session::{Board, Session, Window};
 use soundness::is_sound_at;
@@ -30,9 +36,7 @@ pub struct Answer {
     pub actions: u32,
 }
 
-// Serves one mailbox command: SYSTEM_ERROR first, then the published table of commands in its order. RESET, GET_INFO and ACK are
-// unversioned; 11 and 12 are version 3's.
-#[tactic(auto, using(crate::proofs::Arms::read_row, crate::proofs::Arms::write_row, crate::proofs::Arms::erase_row, crate::proofs::Arms::past_row))]
+// Serves one mailbox command: SYSTEM_ERROR first, then the command of the code that the registers hold.
 pub fn command(
     session: Session,
     registers: [u8; 16],
@@ -57,7 +61,20 @@ pub fn command(
         registers,
         board,
     };
-    let ran = match registers[0] {
+    match run(call, flash, worn, memory) {
+        Ok(answer) => answer,
+        Err(reason) => call.refused(reason),
+    }
+}
+
+// The published table of commands in its order. RESET, GET_INFO and ACK are unversioned; 11 and 12 are version 3's.
+#[tactic(auto, using(crate::proofs::Arms::read_row, crate::proofs::Arms::write_row, crate::proofs::Arms::erase_row, crate::proofs::Arms::past_row))]
+fn run(call: Call, flash: &mut [u8], worn: &[u8], memory: &mut [u8]) -> Result<Answer, Reason>
+    requires sizes { (size_sound 65535 (length flash.old) ≡ true) × (size_sound 64 (length memory.old) ≡ true) }
+    requires room { to_bytes call.session.size ≤ length memory.old }
+    ensures { ran result call flash.new worn.now memory.new ≡ obeyed_by (command_in call.registers) call flash.old worn.now memory.old }
+{
+    match call.registers[0] {
         0 => unknown(call),
         1 => reset(call),
         2 => get_info(call, memory),
@@ -70,9 +87,5 @@ pub fn command(
         9 => acknowledge(call),
         10 => erase(call, memory),
         11..=255 => unknown(call),
-    };
-    match ran {
-        Ok(answer) => answer,
-        Err(reason) => call.refused(reason),
     }
 }

@@ -11,7 +11,7 @@ ghost use Rattle.mailbox.specs.Table.{mark_dirty, flush, ack, erase};
 ghost use Rattle.mailbox.specs.Calls.{ran, obeyed_by};
 
 use crate::Answer;
-use crate::calls::Call;
+use crate::call::Call;
 use buffers::fill;
 use flush::flush_window;
 use refusals::{BlockRange, Needs, Reason, blocks_named, flush_marks, flush_outside};
@@ -52,7 +52,11 @@ pub(crate) fn flush(
 ) -> Result<Answer, Reason>
     ensures { ran result call flash.new worn.now memory.now ≡ obeyed_by flush call flash.old worn.now memory.now }
 {
-    call.check(1, Needs::WriteWindow, flush_outside(call.session, call.registers))?;
+    call.check(
+        1,
+        Needs::WriteWindow,
+        flush_outside(call.session, call.registers),
+    )?;
     let named = if flush_marks(call.session, call.registers) {
         blocks_named(call.session, call.registers)
     } else {
@@ -114,10 +118,7 @@ impl Call {
             counts = recount(counts, marks[at], mark);
             marks[at] = mark;
         }
-        Call {
-            session: with_counted(self.session, marks, counts),
-            ..self
-        }
+        self.with(with_counted(self.session, marks, counts))
     }
 }
 

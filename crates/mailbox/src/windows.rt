@@ -3,15 +3,16 @@ ghost use Rattle.std.specs.Prelude.{◌≡◌, ℕ, ◌+◌, ◌≤◌, ◌<◌,
 ghost use Rattle.buffers.specs.Ranges.{range, replace};
 ghost use Rattle.units.specs.Units.{to_bytes, round_up};
 ghost use Rattle.session.specs.Machine.{set_up, lent};
+ghost use Rattle.session.specs.Record.{with_window};
 ghost use Rattle.soundness.specs.Soundness.{size_sound};
-ghost use Rattle.registers.specs.Registers.{number};
+ghost use Rattle.registers.specs.Registers.{command_of, number};
 ghost use Rattle.mailbox.specs.Commands.{outcome, answered, closing_first, size_for, create_arguments, opening, created, closed};
 ghost use Rattle.mailbox.specs.Table.{reset, create, close_window};
 ghost use Rattle.mailbox.specs.Calls.{ran, obeyed_by};
 
 use crate::Answer;
 use crate::answers::WRITE_ERROR;
-use crate::calls::Call;
+use crate::call::Call;
 use buffers::copy;
 use flush::flush_window;
 use refusals::{Needs, Reason, undefined_flags};
@@ -51,7 +52,7 @@ pub(crate) fn create(
     memory: &mut [u8],
 ) -> Result<Answer, Reason>
     requires { (size_sound 65535 (length flash.old) ≡ true) × (size_sound 64 (length memory.old) ≡ true) }
-    ensures { (code : ℕ) → ran result call flash.new worn.now memory.new ≡ obeyed_by (create code window) call flash.old worn.now memory.old }
+    ensures { ran result call flash.new worn.now memory.new ≡ obeyed_by (create (command_of call.registers) window) call flash.old worn.now memory.old }
 {
     call.check(1, Needs::Access, false)?;
     let blocks = Bytes(flash.len() as u64).blocks().0;
@@ -87,13 +88,7 @@ fn close_first(call: Call, flash: &mut [u8], worn: &[u8], memory: &[u8]) -> Answ
 }
 
 // The active window is closed, and a new one is opened at a block of the flash.
-fn open_at(
-    window: Window,
-    call: Call,
-    flash: &mut [u8],
-    worn: &[u8],
-    memory: &mut [u8],
-) -> Answer
+fn open_at(window: Window, call: Call, flash: &mut [u8], worn: &[u8], memory: &mut [u8]) -> Answer
     requires registers_bound { number 2 0 call.registers < round_up (length flash.old) }
     requires flash_value { (to_bytes (round_up (length flash.old)) ≡ length flash.old) × (round_up (length flash.old) ≤ 65535) }
     requires memory_value { (to_bytes (round_up (length memory.old)) ≡ length memory.old) × (round_up (length memory.old) ≤ 64) }
@@ -156,7 +151,8 @@ fn copy_blocks(flash: &[u8], memory: &mut [u8], first: u16, size: u16)
 {
     let start = Blocks(u32::from(first)).bytes().0 as usize;
     let bytes = Blocks(u32::from(size)).bytes().0 as usize;
-    copy(&mut memory[..bytes], &flash[start..start + bytes]);
+    let end = start + bytes;
+    copy(&mut memory[0..bytes], &flash[start..end]);
 }
 
 impl Call {

@@ -1,21 +1,10 @@
--- `mailbox::calls::unknown`: a code that no version knows is never accepted.
-use Rattle.std.proofs.Common.{refl, sym, ◌∙◌, true, false}
-use mathlib.Core.Bool.{false≢true}
-use Rattle.session.specs.Machine.{set_up, lent}
-use Rattle.refusals.specs.declared.Needs.TheVariants.{Access}
-use Rattle.refusals.proofs.Accepting.{passed}
-use Rattle.mailbox.specs.Table.{unknown}
-use Rattle.mailbox.proofs.Mediating.{refused_by}
-use Rattle.mailbox.proofs.Refusing.{not_system}
+-- `mailbox::calls::unknown`: refused for its number, or as unknown.
+use Rattle.std.proofs.Common.{◌≡◌, refl, rules}
+use Rattle.mailbox.proofs.Ran.{unknown_checked, unknown_passed}
 use Rattle.mailbox.proofs.calls.unknown.Goals as goal
 
+pub returns-in_err-check : goal.returns-in_err-check
+returns-in_err-check c flash worn memory = let f = unknown_checked c.args.call flash worn memory c.check.ensures in search rules
+
 pub returns : goal.returns
-returns c = λ flash worn memory.
-    let call = c.args.call in
-    let m = lent call.session flash worn memory in
-    let reason = c.reason_for-reason in
-    c.refuse.ensures unknown (set_up call.board) flash worn memory
-    (λ a. false≢true (passed true call.session call.registers false Access false (sym reason.ensures ∙ a)).knows)
-    (not_system unknown call.registers m reason.result reason.ensures)
-    (λ _. refl)
-    ∙ refused_by unknown (set_up call.board) call.registers m reason.result reason.ensures
+returns c flash worn memory = let f = unknown_passed c.args.call flash worn memory c.check.ensures in search rules

@@ -1,30 +1,19 @@
--- `mailbox::info::get_info`: refused, and accepted.
-use Rattle.std.proofs.Common.{ℕ, refl, ap, ◌∙◌, length, lit≤}
-use Rattle.session.specs.declared.Session.{Session}
-use Rattle.session.specs.Machine.{set_up, lent}
-use Rattle.mailbox.specs.declared.Answer.{Answer}
-use Rattle.mailbox.specs.Commands.{outcome, numbered, info_answer}
+-- `mailbox::info::get_info`: refused, or a version agreed.
+use Rattle.std.proofs.Common.{◌≡◌, refl, length, rules}
+use Rattle.units.specs.Units.{round_up}
+use Rattle.soundness.proofs.Facts.{block_count}
+use Rattle.refusals.specs.Refusals.{Accepted}
 use Rattle.mailbox.specs.Table.{get_info}
-use Rattle.soundness.proofs.Facts.{sized, counted}
-use Rattle.mailbox.proofs.Mediating.{accepted_by}
-use Rattle.mailbox.proofs.Refusing.{refused_left}
+use Rattle.mailbox.proofs.Ran.{known_always, turned_down, served}
 use Rattle.mailbox.proofs.info.get_info.Goals as goal
 
-pub returns-in_default : goal.returns-in_default
-returns-in_default c = λ flash worn.
-    let call = c.args.call in
-    let reason = c.reason_for-reason in
-    refused_left get_info (set_up call.board) call.registers call.session flash worn c.args.memory.now reason.result c.refuse.result reason.ensures c.in_default.not-Accepted refl c.refuse.ensures
+pub returns-in_err-check : goal.returns-in_err-check
+returns-in_err-check c flash worn =
+    let f = turned_down get_info c.args.call flash worn c.args.memory.now (known_always c.args.call.session.version) c.check.ensures refl refl in search rules
 
 pub returns : goal.returns
-returns c = λ flash worn.
-    let call = c.args.call in
-    let setup = set_up call.board in
-    let memory = c.args.memory.now in
-    let reason = c.reason_for-reason in
-    let blocks = c.blocks-blocks.ensures ∙ counted 64 (length memory) (lit≤ tt) (sized 64 (length memory) c.requires) in
-    ap (λ (r : Answer). outcome r flash worn memory)
-    (c.agree.ensures
-    ∙ ap (λ (s : Session). info_answer setup s call.registers c.blocks-blocks.result.0) c.with_number.ensures
-    ∙ ap (λ (n : ℕ). info_answer setup (numbered call.session call.registers) call.registers n) blocks)
-    ∙ accepted_by get_info (set_up call.board) call.registers (lent call.session flash worn memory) reason.result reason.ensures c.in-Accepted.is
+returns c flash worn =
+    let a : c.check.result ≡ Accepted = search rules in
+    let s = served get_info c.args.call flash worn c.args.memory.now (known_always c.args.call.session.version) c.check.ensures refl a in
+    let blocks : c.blocks-blocks.result.0 ≡ round_up (length c.args.memory.now) = search (rules, block_count) in
+    rw (c.agree.ensures, c.numbered.ensures.session, c.numbered.ensures.registers, c.numbered.ensures.board, blocks) s

@@ -1,47 +1,27 @@
--- `mailbox::marks::erase`: refused, and accepted, when its blocks lie in the window.
-use Rattle.std.proofs.Common.{refl, sym, ap, ◌∙◌, true, not, length}
-use borrow.Author.Tests.{not-false}
-use Rattle.session.specs.declared.Session.{Session}
-use Rattle.session.specs.Machine.{set_up, lent}
-use Rattle.refusals.specs.declared.BlockRange.{BlockRange}
-use Rattle.refusals.specs.declared.Needs.TheVariants.{WriteWindow}
-use Rattle.refusals.specs.Refusals.{blocks_named, reason_for}
-use Rattle.refusals.proofs.Accepting.{passed}
-use Rattle.mailbox.specs.Commands.{erased_outcome}
+-- `mailbox::marks::erase`: refused, by the table or for its argument, or the named blocks marked and made FF.
+use Rattle.std.proofs.Common.{◌≡◌, refl, ap, not, None, Some, sym, ◌∙◌, rules}
+use Rattle.refusals.specs.Refusals.{Accepted, blocks_named}
 use Rattle.mailbox.specs.Table.{erase}
-use Rattle.mailbox.proofs.Marking.{named_fit, named_bytes_fit}
-use Rattle.mailbox.proofs.Mediating.{asked_as, accepted_by}
-use Rattle.mailbox.proofs.Refusing.{refused_left}
+use Rattle.mailbox.proofs.Marking.{range_none, range_some}
+use Rattle.mailbox.proofs.Ran.{refused_first, broken_last, served_last}
 use Rattle.mailbox.proofs.marks.erase.Goals as goal
 
-pub returns-in_default : goal.returns-in_default
-returns-in_default c = λ flash worn k.
-    let call = c.args.call in
-    let memory = c.args.memory.now in
-    let reason = c.reason_for-reason in
-    let e = asked_as erase call.registers (lent call.session flash worn memory) reason.ensures k (ap (λ (b : BlockRange). not b.inside) c.blocks_named-outside.ensures) in
-    refused_left erase (set_up call.board) call.registers call.session flash worn memory reason.result c.refuse.result e c.in_default.not-Accepted refl c.refuse.ensures
+pub returns-in_err-check : goal.returns-in_err-check
+returns-in_err-check c flash worn =
+    let f = refused_first erase c.args.call flash worn c.args.memory.now refl c.check.ensures in search rules
 
-pub erase_named-requires-clause-registers_bound : goal.erase_named-requires-clause-registers_bound
-erase_named-requires-clause-registers_bound c =
-    let call = c.args.call in
-    let e = c.reason_for-reason.ensures ∙ ap (λ (b : BlockRange). reason_for true call.session call.registers c.args.known WriteWindow (not b.inside)) c.blocks_named-outside.ensures in
-    let p = passed true call.session call.registers c.args.known WriteWindow (not (blocks_named call.session call.registers).inside) (sym e ∙ c.in-Accepted.is) in
-    named_fit call.session c.with_number.result call.registers 64 c.with_number.ensures (not-false _ p.argued) c.requires.size_bound.0
-
-pub erase_named-requires-clause-registers_in_bounds : goal.erase_named-requires-clause-registers_in_bounds
-erase_named-requires-clause-registers_in_bounds c =
-    let call = c.args.call in
-    let e = c.reason_for-reason.ensures ∙ ap (λ (b : BlockRange). reason_for true call.session call.registers c.args.known WriteWindow (not b.inside)) c.blocks_named-outside.ensures in
-    let p = passed true call.session call.registers c.args.known WriteWindow (not (blocks_named call.session call.registers).inside) (sym e ∙ c.in-Accepted.is) in
-    named_bytes_fit call.session c.with_number.result call.registers (length c.args.memory.now) c.with_number.ensures (not-false _ p.argued) c.requires.size_bound.1
+pub returns-in_err-named : goal.returns-in_err-named
+returns-in_err-named c flash worn =
+    let a : c.check.result ≡ Accepted = search rules in
+    let none : c.blocks_named.result ≡ None = search rules in
+    let inside = range_none (blocks_named c.args.call.session c.args.call.registers) (sym c.blocks_named.ensures ∙ none) in
+    let b = broken_last erase c.args.call flash worn c.args.memory.now refl c.check.ensures a (ap not inside) in search rules
 
 pub returns : goal.returns
-returns c = λ flash worn k.
-    let call = c.args.call in
-    let memory = c.args.memory.now in
-    let reason = c.reason_for-reason in
-    let e = asked_as erase call.registers (lent call.session flash worn memory) reason.ensures k (ap (λ (b : BlockRange). not b.inside) c.blocks_named-outside.ensures) in
-    c.erase_named.ensures flash worn
-    ∙ ap (λ (s : Session). erased_outcome call.registers (lent s flash worn memory)) c.with_number.ensures
-    ∙ accepted_by erase (set_up call.board) call.registers (lent call.session flash worn memory) reason.result e c.in-Accepted.is
+returns c flash worn =
+    let a : c.check.result ≡ Accepted = search rules in
+    let some : c.blocks_named.result ≡ Some c.in_ok-named.named = search rules in
+    let n = range_some (blocks_named c.args.call.session c.args.call.registers) c.in_ok-named.named (sym c.blocks_named.ensures ∙ some) in
+    let s = served_last erase c.args.call flash worn c.args.memory.now refl c.check.ensures a (ap not n.0) in
+    rw (c.answer.ensures, c.fill_blocks.ensures, c.marked-marked.ensures.session, c.marked-marked.ensures.registers, c.numbered.ensures.session,
+    c.numbered.ensures.registers, n.1) s

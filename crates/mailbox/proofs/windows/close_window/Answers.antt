@@ -1,30 +1,20 @@
--- `mailbox::windows::close_window`: refused, and accepted.
-use Rattle.std.proofs.Common.{refl, ap, ◌∙◌, length}
+-- `mailbox::windows::close_window`: refused, or the window flushed and dropped.
+use Rattle.std.proofs.Common.{◌≡◌, ◌∙◌, refl, length, rules}
 use Rattle.units.specs.Units.{round_up}
-use Rattle.session.specs.declared.Session.{Session}
-use Rattle.session.specs.Machine.{set_up, lent}
-use Rattle.mailbox.specs.Commands.{closed}
+use Rattle.refusals.specs.Refusals.{Accepted}
 use Rattle.mailbox.specs.Table.{close_window}
-use Rattle.mailbox.proofs.Mediating.{asked_as, accepted_by}
-use Rattle.mailbox.proofs.Refusing.{refused_left}
+use Rattle.mailbox.proofs.Ran.{turned_down, served}
 use Rattle.mailbox.proofs.windows.close_window.Goals as goal
 
-pub returns-in_default : goal.returns-in_default
-returns-in_default c = λ k.
+pub returns-in_err-check : goal.returns-in_err-check
+returns-in_err-check c =
     let a = c.args in
-    let call = a.call in
-    let m = lent call.session a.flash.now a.worn.now a.memory.now in
-    let reason = c.reason_for-reason in
-    let e = asked_as close_window call.registers m reason.ensures k (c.undefined_flags-undefined.ensures (round_up (length a.flash.now))) in
-    refused_left close_window (set_up call.board) call.registers call.session a.flash.now a.worn.now a.memory.now reason.result c.refuse.result e c.in_default.not-Accepted refl c.refuse.ensures
+    let f = turned_down close_window a.call a.flash.now a.worn.now a.memory.now refl c.check.ensures
+    (c.undefined_flags-undefined.ensures (round_up (length a.flash.now))) refl in search rules
 
 pub returns : goal.returns
-returns c = λ k.
+returns c =
     let a = c.args in
-    let call = a.call in
-    let m = lent call.session a.flash.now a.worn.now a.memory.now in
-    let reason = c.reason_for-reason in
-    let e = asked_as close_window call.registers m reason.ensures k (c.undefined_flags-undefined.ensures (round_up (length a.flash.now))) in
-    c.close.ensures
-    ∙ ap (λ (s : Session). closed call.registers (lent s a.flash.now a.worn.now a.memory.now)) c.with_number.ensures
-    ∙ accepted_by close_window (set_up call.board) call.registers m reason.result e c.in-Accepted.is
+    let e : c.check.result ≡ Accepted = search rules in
+    let s = served close_window a.call a.flash.now a.worn.now a.memory.now refl c.check.ensures (c.undefined_flags-undefined.ensures (round_up (length a.flash.now))) e in
+    rw (c.numbered.ensures.session, c.numbered.ensures.registers) at c.close.ensures ∙ s

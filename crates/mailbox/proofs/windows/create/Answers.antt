@@ -1,0 +1,52 @@
+-- `mailbox::windows::create`: refused by the table, closed for a block outside the flash, or opened.
+use Rattle.std.proofs.Common.{◌≡◌, List, ℕ, refl, ap, ◌∙◌, length, arith, rules}
+use borrow.Author.Tests.{le-leb, lt-leb}
+use Rattle.units.specs.Units.{round_up}
+use Rattle.registers.specs.Registers.{command_of, number}
+use Rattle.soundness.proofs.Facts.{block_count, sized}
+use Rattle.refusals.specs.Refusals.{Accepted}
+use Rattle.session.specs.declared.Board.{Board}
+use Rattle.session.specs.declared.Session.{Session}
+use Rattle.session.specs.Machine.{set_up, lent}
+use Rattle.mailbox.specs.Commands.{closing_first, created}
+use Rattle.mailbox.specs.Table.{create}
+use Rattle.mailbox.proofs.Ran.{refused_first, broken_last, served_last}
+use Rattle.mailbox.proofs.windows.create.Goals as goal
+
+pub returns-in_err-check : goal.returns-in_err-check
+returns-in_err-check c =
+    let a = c.args in
+    let f = refused_first (create (command_of a.call.registers) a.window) a.call a.flash.now a.worn.now a.memory.now refl c.check.ensures in search rules
+
+pub open_at-requires-clause-flash_value : goal.open_at-requires-clause-flash_value
+open_at-requires-clause-flash_value c = let f = sized 65535 (length c.args.flash.now) c.requires.0 in (f.whole, f.few)
+
+pub open_at-requires-clause-memory_value : goal.open_at-requires-clause-memory_value
+open_at-requires-clause-memory_value c = let m = sized 64 (length c.args.memory.now) c.requires.1 in (m.whole, m.few)
+
+pub returns-then-outside : goal.returns-then-outside
+returns-then-outside c =
+    let a = c.args in
+    let e : c.check.result ≡ Accepted = search rules in
+    let blocks : c.blocks-blocks.result.0 ≡ round_up (length a.flash.now) = search (rules, block_count) in
+    let first : c.from.result ≡ number 2 0 a.call.registers = search rules in
+    let outside = le-leb (round_up (length a.flash.now)) (number 2 0 a.call.registers) (omega (arith, c.if-outside.true, blocks, first)) in
+    let b = broken_last (create (command_of a.call.registers) a.window) a.call a.flash.now a.worn.now a.memory.now refl c.check.ensures e outside in
+    c.close_first.ensures
+    ∙ ap (λ (t : List ℕ). closing_first 2 t (lent c.numbered.result.session a.flash.now a.worn.now a.memory.now)) c.numbered.ensures.registers
+    ∙ ap (λ (t : Session). closing_first 2 a.call.registers (lent t a.flash.now a.worn.now a.memory.now)) c.numbered.ensures.session
+    ∙ b
+
+pub returns : goal.returns
+returns c =
+    let a = c.args in
+    let e : c.check.result ≡ Accepted = search rules in
+    let blocks : c.blocks-blocks.result.0 ≡ round_up (length a.flash.now) = search (rules, block_count) in
+    let first : c.from.result ≡ number 2 0 a.call.registers = search rules in
+    let inside = lt-leb (round_up (length a.flash.now)) (number 2 0 a.call.registers) (omega (arith, c.if-outside.false, blocks, first)) in
+    let s = served_last (create (command_of a.call.registers) a.window) a.call a.flash.now a.worn.now a.memory.now refl c.check.ensures e inside in
+    c.open_at.ensures
+    ∙ ap (λ (t : Board). created a.window (set_up t) c.numbered-2.result.registers (lent c.numbered-2.result.session a.flash.now a.worn.now a.memory.now)) c.numbered-2.ensures.board
+    ∙ ap (λ (t : List ℕ). created a.window (set_up a.call.board) t (lent c.numbered-2.result.session a.flash.now a.worn.now a.memory.now)) c.numbered-2.ensures.registers
+    ∙ ap (λ (t : Session). created a.window (set_up a.call.board) a.call.registers (lent t a.flash.now a.worn.now a.memory.now)) c.numbered-2.ensures.session
+    ∙ s
