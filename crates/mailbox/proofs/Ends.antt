@@ -1,11 +1,6 @@
 -- A command that flushes, by whether an erase fails: what holds of both ends, each in its case, holds of what is left.
-use mathlib.Core.Path.{◌≡◌, ap, ◌∙◌}
-use mathlib.Core.Bool.{true, false}
-use mathlib.Core.List.{List, [], ◌∷◌, ◌++◌}
-use Prim.Native.Nat.{ℕ, ◌+◌}
-use native.Mathlib.Omega.{arith}
-use lib.ListN.{length, get_or, length-append, length-take, length-replicate}
-use lib.Seq.{get_or-append-add}
+use Rattle.std.proofs.Common.{◌≡◌, ap, ◌∙◌, true, false, List, [], ◌∷◌, ◌++◌, ℕ, ◌+◌, arith, length, get_or, length-append, length-take, get_or-append-add}
+use lib.ListN.{length-replicate}
 use Rattle.units.proofs.Cases.{chosen}
 use Rattle.session.specs.declared.Window.{Window}
 use Rattle.session.specs.Machine.{Setup, Machine}

@@ -1,12 +1,6 @@
 -- The window memory and the map are lent: every command, refused or not, on any session, leaves the one as long as it was, and the other as it was.
-use mathlib.Core.Path.{◌≡◌, refl}
-use mathlib.Core.Bool.{not}
-use mathlib.Core.List.{List}
-use Prim.Native.Nat.{ℕ, ◌≤◌}
-use native.Mathlib.Omega.{arith}
-use lib.Dec.{leb}
-use lib.ListN.{length, drop, length-take}
-use borrow.Author.Tests.{leb-false, not-false}
+use Rattle.std.proofs.Common.{◌≡◌, refl, not, List, ℕ, ◌≤◌, arith, leb, length, drop, length-take, leb-false}
+use borrow.Author.Tests.{not-false}
 use Rattle.units.specs.Units.{to_bytes, round_up}
 use Rattle.buffers.specs.Ranges.{range}
 use Rattle.buffers.proofs.Replace.{replace_length}

@@ -1,4 +1,3 @@
-mod Creating
 pub mod Arms
 pub mod Ends
 pub mod Front

@@ -1,5 +1,5 @@
 -- The blocks that a command names, as the code has them.
-use Rattle.std.proofs.Common.{◌≡◌, ℕ, List, Bool, true, false, not, ◌&&◌, cond, Option, None, Some, replicate, refl, sym, ap, ◌∙◌, ⊎_elim}
+use Rattle.std.proofs.Common.{◌≡◌, ℕ, List, Bool, true, false, not, ◌&&◌, cond, Option, None, Some, replicate, refl, sym, ◌∙◌, ⊎_elim}
 use borrow.Author.Tests.{not-false}
 use Rattle.units.proofs.Cases.{decided}
 use Rattle.buffers.specs.Ranges.{replace}

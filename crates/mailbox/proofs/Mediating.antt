@@ -1,13 +1,5 @@
 -- What a command leaves, by its row of the table and by the first check that refuses it.
-use mathlib.Core.Path.{◌≡◌, refl, sym, ap, subst, ◌∙◌}
-use mathlib.Core.Bool.{Bool, true, false, cond}
-use mathlib.Core.List.{List}
-use Prim.Native.Nat.{ℕ, ◌≤◌}
-use native.Mathlib.Nat.{le_trans}
-use lib.Dec.{eqb}
-use lib.ListN.{length}
-use borrow.Author.Tests.{eqb-true, ne_eqb}
-use Rattle.std.specs.Prelude.{Err}
+use Rattle.std.proofs.Common.{◌≡◌, refl, sym, ap, subst, ◌∙◌, Bool, true, false, cond, List, ℕ, ◌≤◌, le_trans, eqb, length, eqb-true, ne_eqb, Err}
 use Rattle.units.specs.Units.{to_bytes, round_up}
 use Rattle.units.proofs.Cases.{chosen}
 use Rattle.session.specs.Machine.{Setup, Machine}
@@ -30,16 +22,6 @@ asked_as c registers m {known} {broken} {r} e k b =
     e
     ∙ ap (λ (t : Bool). reason_for true m.session registers t c.needs broken) k
     ∙ ap (reason_for true m.session registers (c.known m.session.version) c.needs) b
-
--- ---- a command, by the reason that the checks gave
-module _ (c : Command) (setup : Setup) (registers : List ℕ) (m : Machine) (r : Checked) (e : r ≡ reason_of c true registers m) where
-  pub refused_by : answer_to r c setup registers m ≡ obeyed c true setup registers m
-  unfolding obeyed
-  refused_by = ap (λ (q : Checked). answer_to q c setup registers m) e
-
-  pub accepted_by : r ≡ Accepted → c.leaves setup registers (numbered_in registers m) ≡ obeyed c true setup registers m
-  unfolding answer_to
-  accepted_by a = sym (ap (λ (q : Checked). answer_to q c setup registers m) a) ∙ refused_by
 
 -- ---- the mediator
 -- by the first check that refuses
@@ -87,14 +69,6 @@ pub mediated_by : (setup : Setup) (registers : List ℕ) (m : Machine) → sound
 unfolding mediate
 mediated_by setup registers m s = ap (λ (b : Bool). obeyed (command_in registers) b setup registers m) (sym s)
 
--- and the row of the code that the registers hold
-pub row_at : (n : ℕ) (setup : Setup) (registers : List ℕ) (m : Machine) → command_of registers ≡ n → sound_in setup m ≡ true
-    → obeyed (command_at n) true setup registers m ≡ mediate setup registers m
-unfolding mediate
-row_at n setup registers m c s =
-    ap (λ (b : Bool). obeyed (command_at n) b setup registers m) (sym s)
-    ∙ ap (λ (q : ℕ). obeyed (command_at q) (sound_in setup m) setup registers m) (sym c)
-
 -- what holds of every row with its code, and of any code without one, holds of the command of any code
 pub each_command : (P : ℕ → Command → Type 0) → P reset.code reset → P get_info.code get_info → P get_flash_info.code get_flash_info
     → P create_read_window.code create_read_window → P close_window.code close_window → P create_write_window.code create_write_window
@@ -114,11 +88,6 @@ pub past_table : (n : ℕ) → (n ≡ 1 → ⊥) → (n ≡ 2 → ⊥) → (n �
 unfolding command_at
 past_table n n1 n2 n3 n4 n5 n6 n7 n8 n9 n10 =
     rw (ne_eqb n 1 n1, ne_eqb n 2 n2, ne_eqb n 3 n3, ne_eqb n 4 n4, ne_eqb n 5 n5, ne_eqb n 6 n6, ne_eqb n 7 n7, ne_eqb n 8 n8, ne_eqb n 9 n9, ne_eqb n 10 n10)
-
-pub unknown_at : (setup : Setup) (registers : List ℕ) (m : Machine) → command_in registers ≡ unknown → sound_in setup m ≡ true
-    → obeyed unknown true setup registers m ≡ mediate setup registers m
-unknown_at setup registers m c s =
-    ap (λ (d : Command). obeyed d true setup registers m) (sym c) ∙ row_at (command_of registers) setup registers m refl s
 
 -- ---- what a sound call lends
 pub record Fits (m : Machine) : Type 0 where

@@ -1,6 +1,5 @@
 -- A command's function: what its checks tell of the row of the table, and what it answers by them.
-use Rattle.std.proofs.Common.{◌≡◌, ℕ, List, Bool, true, false, cond, not, ◌&&◌, Err, sym, ap, ◌∙◌, refl, subst, leb, length, arith}
-use borrow.Author.Tests.{le-leb}
+use Rattle.std.proofs.Common.{◌≡◌, ℕ, List, Bool, true, false, cond, not, ◌&&◌, Err, sym, ap, ◌∙◌, refl, subst, leb, length, arith, le-leb}
 use Rattle.units.specs.Units.{round_up}
 use Rattle.session.specs.declared.Session.{Session}
 use Rattle.session.specs.Machine.{Machine, set_up, lent}

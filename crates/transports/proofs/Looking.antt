@@ -1,6 +1,6 @@
 -- The mediator looks at the command, its number and its own parameters alone: what it leaves has nothing of the other arguments and of registers 13 to 15,
 -- but for register 14, which it hands back.
-use Rattle.std.proofs.Common.{◌≡◌, refl, sym, ap, ◌∙◌, Bool, true, false, cond, List, [], ◌∷◌, ◌++◌, Err, Option, None, Some, ℕ, min, ltb, length, get_or, replicate}
+use Rattle.std.proofs.Common.{◌≡◌, refl, sym, ap, ◌∙◌, Bool, true, false, cond, List, [], ◌∷◌, ◌++◌, Err, Option, None, Some, ℕ, min, leb, ltb, length, get_or, replicate}
 use Rattle.units.specs.Units.{block_bytes, to_bytes, round_up}
 use Rattle.buffers.specs.Ranges.{range, replace}
 use Rattle.session.specs.declared.Window.{Window}
@@ -13,13 +13,13 @@ use Rattle.registers.specs.Registers.{argument, number, bytes_of}
 use Rattle.registers.proofs.Fields.{elements}
 use Rattle.flush.specs.Window.{flush_whole}
 use Rattle.refusals.specs.declared.Reason.TheVariants.{System, Repeated, Unknown, Suspended, Windowless, Argument}
-use Rattle.refusals.specs.Refusals.{Checked, Accepted, reason_for}
+use Rattle.refusals.specs.Refusals.{Checked, Accepted, undefined_flags, reason_for}
 use Rattle.messages.specs.Parameters.{Parameter, y, q, u, Row, row, table, row_of}
 use Rattle.messages.specs.Messages.{arguments_of}
 use Rattle.messages.proofs.Rows.{◌&◌, each_row}
 use Rattle.mailbox.specs.Commands.{Outcome, outcome, leaving, answered, numbered_in, info_arguments, informed, flash_informed}
 use Rattle.mailbox.specs.Commands.{hint, size_for, create_arguments, closing, opened, opening, created, stopped, closed, flushing, flushed_through, flushed_all}
-use Rattle.mailbox.specs.Table.{Command, reset, get_info, get_flash_info, create_read_window, close_window, create_write_window, mark_dirty, flush, ack, erase, unknown}
+use Rattle.mailbox.specs.Table.{Command, create, reset, get_info, get_flash_info, create_read_window, close_window, create_write_window, mark_dirty, flush, ack, erase, unknown}
 use Rattle.mailbox.specs.Mediator.{command_at, reason_of, answer_to, obeyed, mediate}
 use Rattle.mailbox.proofs.Mediating.{each_command}
 use Rattle.ipmi.proofs.Told.{reply_as}
@@ -180,6 +180,31 @@ none_alike command version setup r s flash worn memory = unasked_alike setup r (
 abbrev asks : List Parameter → Option Row
 asks ps = Some (row 0 0 ps [])
 
+-- a create of either kind, and a CLOSE_WINDOW, whose parameters the row has
+module _ (code version : ℕ) (ps : List Parameter) (setup : Setup) (r : List ℕ) (s : Session) (flash worn memory : List ℕ) where
+  abbrev given : Machine
+  given = lent (with_version version s) flash worn memory
+
+  abbrev mailed : List ℕ
+  mailed = filled_with code r
+
+  abbrev told : List ℕ
+  told = through_row (asks ps) code r
+
+  -- a command leaves the same of both
+  abbrev Obeys : Command → Type 0
+  Obeys c = seen (obeyed c (sound_in setup given) setup mailed given) ≡ seen (obeyed c (sound_in setup given) setup told given)
+
+  creates : (w : Window) → number 2 0 mailed ≡ number 2 0 told → hint given.session mailed ≡ hint given.session told → Obeys (create code w)
+  creates w e f =
+      obeyed_alike setup code (get_or r 1 0) (elements 14 2 r) (behind (asks ps) code r) (create code w) _ given (ap (leb (round_up (length flash))) e)
+      (created_alike setup code (get_or r 1 0) (elements 14 2 r) (behind (asks ps) code r) w (numbered_in mailed given) e f) (λ code. refl)
+
+  closes : undefined_flags given.session mailed 0 ≡ undefined_flags given.session told 0 → Obeys close_window
+  closes e =
+      obeyed_alike setup code (get_or r 1 0) (elements 14 2 r) (behind (asks ps) code r) close_window _ given e
+      (closed_alike setup code (get_or r 1 0) (elements 14 2 r) (behind (asks ps) code r) (numbered_in mailed given)) (λ code. refl)
+
 reset_alike : (version : ℕ) → Alike 1 version (asks [])
 unfolding mediate command_at
 reset_alike version setup r s flash worn memory = obeyed_alike setup 1 (get_or r 1 0) _ _ reset _ _ refl refl (λ code. refl)
@@ -202,51 +227,27 @@ flash2_alike setup r s flash worn memory = obeyed_alike setup 3 (get_or r 1 0) _
 
 read1_alike : Alike 4 1 (asks (q 0 0 ∷ []))
 unfolding mediate command_at
-read1_alike setup r s flash worn memory =
-    obeyed_alike setup 4 (get_or r 1 0) _ _ create_read_window _ (lent (with_version 1 s) flash worn memory) refl
-    (created_alike setup 4 (get_or r 1 0) (elements 14 2 r) (behind (asks (q 0 0 ∷ [])) 4 r) Read
-    (numbered_in (filled_with 4 r) (lent (with_version 1 s) flash worn memory)) refl refl)
-    (λ code. refl)
+read1_alike setup r s flash worn memory = creates 4 1 (q 0 0 ∷ []) setup r s flash worn memory Read refl refl
 
 read2_alike : Alike 4 2 (asks (q 0 0 ∷ q 2 2 ∷ []))
 unfolding mediate command_at
-read2_alike setup r s flash worn memory =
-    obeyed_alike setup 4 (get_or r 1 0) _ _ create_read_window _ (lent (with_version 2 s) flash worn memory) refl
-    (created_alike setup 4 (get_or r 1 0) (elements 14 2 r) (behind (asks (q 0 0 ∷ q 2 2 ∷ [])) 4 r) Read
-    (numbered_in (filled_with 4 r) (lent (with_version 2 s) flash worn memory)) refl refl)
-    (λ code. refl)
+read2_alike setup r s flash worn memory = creates 4 2 (q 0 0 ∷ q 2 2 ∷ []) setup r s flash worn memory Read refl refl
 
 close1_alike : Alike 5 1 (asks [])
 unfolding mediate command_at
-close1_alike setup r s flash worn memory =
-    obeyed_alike setup 5 (get_or r 1 0) _ _ close_window _ (lent (with_version 1 s) flash worn memory) refl
-    (closed_alike setup 5 (get_or r 1 0) (elements 14 2 r) (behind (asks []) 5 r)
-    (numbered_in (filled_with 5 r) (lent (with_version 1 s) flash worn memory)))
-    (λ code. refl)
+close1_alike setup r s flash worn memory = closes 5 1 [] setup r s flash worn memory refl
 
 close2_alike : Alike 5 2 (asks (y 0 0 ∷ []))
 unfolding mediate command_at
-close2_alike setup r s flash worn memory =
-    obeyed_alike setup 5 (get_or r 1 0) _ _ close_window _ (lent (with_version 2 s) flash worn memory) refl
-    (closed_alike setup 5 (get_or r 1 0) (elements 14 2 r) (behind (asks (y 0 0 ∷ [])) 5 r)
-    (numbered_in (filled_with 5 r) (lent (with_version 2 s) flash worn memory)))
-    (λ code. refl)
+close2_alike setup r s flash worn memory = closes 5 2 (y 0 0 ∷ []) setup r s flash worn memory refl
 
 write1_alike : Alike 6 1 (asks (q 0 0 ∷ []))
 unfolding mediate command_at
-write1_alike setup r s flash worn memory =
-    obeyed_alike setup 6 (get_or r 1 0) _ _ create_write_window _ (lent (with_version 1 s) flash worn memory) refl
-    (created_alike setup 6 (get_or r 1 0) (elements 14 2 r) (behind (asks (q 0 0 ∷ [])) 6 r) Write
-    (numbered_in (filled_with 6 r) (lent (with_version 1 s) flash worn memory)) refl refl)
-    (λ code. refl)
+write1_alike setup r s flash worn memory = creates 6 1 (q 0 0 ∷ []) setup r s flash worn memory Write refl refl
 
 write2_alike : Alike 6 2 (asks (q 0 0 ∷ q 2 2 ∷ []))
 unfolding mediate command_at
-write2_alike setup r s flash worn memory =
-    obeyed_alike setup 6 (get_or r 1 0) _ _ create_write_window _ (lent (with_version 2 s) flash worn memory) refl
-    (created_alike setup 6 (get_or r 1 0) (elements 14 2 r) (behind (asks (q 0 0 ∷ q 2 2 ∷ [])) 6 r) Write
-    (numbered_in (filled_with 6 r) (lent (with_version 2 s) flash worn memory)) refl refl)
-    (λ code. refl)
+write2_alike setup r s flash worn memory = creates 6 2 (q 0 0 ∷ q 2 2 ∷ []) setup r s flash worn memory Write refl refl
 
 dirty1_alike : Alike 7 1 (asks (q 0 0 ∷ u 2 2 ∷ []))
 unfolding mediate command_at
