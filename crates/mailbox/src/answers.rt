@@ -2,32 +2,31 @@
 ghost use Rattle.std.specs.Prelude.{◌≡◌, Some, []};
 ghost use Rattle.session.specs.Record.{with_marks, drop_window};
 ghost use Rattle.flush.specs.Window.{left_marks};
+ghost use Rattle.refusals.specs.Refusals.{code_number};
 ghost use Rattle.mailbox.specs.Commands.{answer_with, answered};
 
 use crate::Answer;
 use crate::call::Call;
 use flush::left_marks;
+use refusals::Code;
 use registers::{NO_ARGUMENTS, replied};
 use session::{Session, without_window};
 use soundness::with_marks;
-
-// WRITE_ERROR: the erase of a worn block failed.
-pub(crate) const WRITE_ERROR: u8 = 3;
 
 impl Call {
     // The answer that leaves this session.
     pub(crate) fn answer(
         self,
         session: Session,
-        code: u8,
+        code: Code,
         arguments: [u8; 11],
         actions: u32,
     ) -> Answer
-        ensures { result ≡ answer_with session self.registers code arguments actions }
+        ensures { result ≡ answer_with session self.registers (code_number code) arguments actions }
     {
         Answer {
             session,
-            registers: replied(self.registers, code, arguments, session.events),
+            registers: replied(self.registers, u8::from(code), arguments, session.events),
             actions,
         }
     }
@@ -39,15 +38,15 @@ impl Call {
         let left = left_marks(self.session.marks, Some(failed));
         self.answer(
             with_marks(self.session, left),
-            WRITE_ERROR,
+            Code::WriteError,
             NO_ARGUMENTS,
             actions,
         )
     }
 
     // The window is dropped after so many actions.
-    pub(crate) fn dropped(self, code: u8, actions: u32) -> Answer
-        ensures { result ≡ answered (drop_window self.session) self.registers code [] actions }
+    pub(crate) fn dropped(self, code: Code, actions: u32) -> Answer
+        ensures { result ≡ answered (drop_window self.session) self.registers (code_number code) [] actions }
     {
         self.answer(without_window(self.session), code, NO_ARGUMENTS, actions)
     }

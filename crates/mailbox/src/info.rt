@@ -8,7 +8,7 @@ ghost use Rattle.mailbox.specs.Calls.{ran, obeyed_by};
 
 use crate::Answer;
 use crate::call::Call;
-use refusals::{Needs, Reason};
+use refusals::{Code, Needs, Reason};
 use session::with_version;
 use units::{Blocks, Bytes};
 
@@ -44,7 +44,12 @@ fn agree(call: Call, memory: Blocks) -> Answer
         let [low, high] = call.board.timeout.to_le_bytes();
         [version, 0, 0, 0, 0, 12, low, high, 0, 0, 0]
     };
-    call.answer(with_version(call.session, version), 1, arguments, 0)
+    call.answer(
+        with_version(call.session, version),
+        Code::Success,
+        arguments,
+        0,
+    )
 }
 
 // The flash's size and erase granule: in bytes at version 1, in blocks from version 2 on.
@@ -58,5 +63,5 @@ fn tell_flash(call: Call, flash: Blocks) -> Answer
         let [low, high, _, _] = flash.0.to_le_bytes();
         [low, high, 1, 0, 0, 0, 0, 0, 0, 0, 0]
     };
-    call.answer(call.session, 1, arguments, 0)
+    call.answer(call.session, Code::Success, arguments, 0)
 }

@@ -22,7 +22,7 @@ use call::Call;
 use calls::unknown;
 use info::{get_flash_info, get_info};
 use marks::{acknowledge, erase, flush, mark_dirty};
-use refusals::Reason;
+use refusals::{Code, Reason};
 use registers::{NO_ARGUMENTS, replied};
 use session::{Board, Session, Window};
 use soundness::is_sound_at;
@@ -52,7 +52,12 @@ pub fn command(
     if !is_sound_at(session, board, flash.len(), worn.len(), memory.len()) {
         return Answer {
             session,
-            registers: replied(registers, 4, NO_ARGUMENTS, session.events),
+            registers: replied(
+                registers,
+                u8::from(Code::SystemError),
+                NO_ARGUMENTS,
+                session.events,
+            ),
             actions: 0,
         };
     }

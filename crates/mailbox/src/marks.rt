@@ -14,7 +14,7 @@ use crate::Answer;
 use crate::call::Call;
 use buffers::fill;
 use flush::flush_window;
-use refusals::{BlockRange, Needs, Reason, blocks_named, flush_marks, flush_outside};
+use refusals::{BlockRange, Code, Needs, Reason, blocks_named, flush_marks, flush_outside};
 use registers::NO_ARGUMENTS;
 use session::{
     Counts, DIRTY, ERASED, acknowledge_events, of_kind, with_access, with_counted, without_marks,
@@ -28,7 +28,7 @@ pub(crate) fn mark_dirty(call: Call) -> Result<Answer, Reason>
     call.check(1, Needs::WriteWindow, false)?;
     let named = blocks_named(call.session, call.registers).ok_or(Reason::Argument)?;
     let marked = call.numbered().marked(named, DIRTY);
-    Ok(marked.answer(marked.session, 1, NO_ARGUMENTS, 0))
+    Ok(marked.answer(marked.session, Code::Success, NO_ARGUMENTS, 0))
 }
 
 // ERASE: the named blocks are marked erased and become FF in the window memory, if they lie in the window.
@@ -40,7 +40,7 @@ pub(crate) fn erase(call: Call, memory: &mut [u8]) -> Result<Answer, Reason>
     let named = blocks_named(call.session, call.registers).ok_or(Reason::Argument)?;
     fill_blocks(memory, named);
     let marked = call.numbered().marked(named, ERASED);
-    Ok(marked.answer(marked.session, 1, NO_ARGUMENTS, 0))
+    Ok(marked.answer(marked.session, Code::Success, NO_ARGUMENTS, 0))
 }
 
 // FLUSH: the marked blocks are flushed, if those that it marks itself lie in the window.
@@ -77,7 +77,7 @@ pub(crate) fn acknowledge(call: Call) -> Result<Answer, Reason>
     let next = call.numbered().session;
     let events = acknowledge_events(next.events, call.registers[2]);
     let cleared = with_access(next, next.suspended, events);
-    Ok(call.answer(cleared, 1, NO_ARGUMENTS, 0))
+    Ok(call.answer(cleared, Code::Success, NO_ARGUMENTS, 0))
 }
 
 // The blocks of the window memory become FF.
@@ -97,7 +97,12 @@ fn flush_all(call: Call, flash: &mut [u8], worn: &[u8], memory: &[u8]) -> Answer
     let flush = flush_window(call.session, flash, worn, memory);
     match flush.failed {
         Some(block) => call.stopped(block, flush.actions),
-        None => call.answer(without_marks(call.session), 1, NO_ARGUMENTS, flush.actions),
+        None => call.answer(
+            without_marks(call.session),
+            Code::Success,
+            NO_ARGUMENTS,
+            flush.actions,
+        ),
     }
 }
 

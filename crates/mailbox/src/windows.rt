@@ -11,11 +11,10 @@ ghost use Rattle.mailbox.specs.Table.{reset, create, close_window};
 ghost use Rattle.mailbox.specs.Calls.{ran, obeyed_by};
 
 use crate::Answer;
-use crate::answers::WRITE_ERROR;
 use crate::call::Call;
 use buffers::copy;
 use flush::flush_window;
-use refusals::{Needs, Reason, undefined_flags};
+use refusals::{Code, Needs, Reason, undefined_flags};
 use registers::read_words;
 use session::{Window, with_window};
 use units::{Blocks, Bytes};
@@ -25,7 +24,7 @@ pub(crate) fn reset(call: Call) -> Result<Answer, Reason>
     ensures { (flash worn memory : List ℕ) → ran result call flash worn memory ≡ obeyed_by reset call flash worn memory }
 {
     call.check(0, Needs::Access, false)?;
-    Ok(call.numbered().dropped(1, 0))
+    Ok(call.numbered().dropped(Code::Success, 0))
 }
 
 // CLOSE_WINDOW: the window is flushed and dropped, if the flags in argument 0 are defined.
@@ -70,7 +69,7 @@ fn close(call: Call, flash: &mut [u8], worn: &[u8], memory: &[u8]) -> Answer
     let flush = flush_window(call.session, flash, worn, memory);
     match flush.failed {
         Some(block) => call.stopped(block, flush.actions),
-        None => call.dropped(1, flush.actions),
+        None => call.dropped(Code::Success, flush.actions),
     }
 }
 
@@ -80,9 +79,9 @@ fn close_first(call: Call, flash: &mut [u8], worn: &[u8], memory: &[u8]) -> Answ
 {
     let flush = flush_window(call.session, flash, worn, memory);
     let code = if flush.failed.is_some() {
-        WRITE_ERROR
+        Code::WriteError
     } else {
-        2
+        Code::ParamError
     };
     call.dropped(code, flush.actions)
 }
@@ -137,7 +136,7 @@ fn open_window(
 {
     let flush = flush_window(call.session, flash, worn, memory);
     if flush.failed.is_some() {
-        return call.dropped(WRITE_ERROR, flush.actions);
+        return call.dropped(Code::WriteError, flush.actions);
     }
     copy_blocks(flash, memory, first, size);
     call.opened(window, first, size, flush.actions)
@@ -167,7 +166,7 @@ impl Call {
         let [f0, f1] = late(version, first).to_le_bytes();
         self.answer(
             with_window(self.session, window, first, size),
-            1,
+            Code::Success,
             [b0, b1, s0, s1, f0, f1, 0, 0, 0, 0, 0],
             actions,
         )

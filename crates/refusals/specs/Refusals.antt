@@ -6,6 +6,8 @@ use Rattle.session.specs.declared.Window.{Window}
 use Rattle.session.specs.declared.Window.TheVariants.{Closed, Read, Write}
 use Rattle.refusals.specs.declared.Reason.{Reason}
 use Rattle.refusals.specs.declared.Reason.TheVariants.{System, Repeated, Unknown, Suspended, Windowless, Argument}
+use Rattle.refusals.specs.declared.codes.Code.{Code}
+use Rattle.refusals.specs.declared.codes.Code.TheVariants.{Success, ParamError, WriteError, SystemError, Timeout, Busy, WindowError, SeqError}
 use Rattle.refusals.specs.declared.Needs.{Needs}
 use Rattle.refusals.specs.declared.Needs.TheVariants.{Nothing, NewNumber, Access, WriteWindow}
 use Rattle.refusals.specs.declared.BlockRange.{BlockRange}
@@ -138,6 +140,17 @@ first_of (row ∷ rows) = cond row.test (Err row.reason) (first_of rows)
 
 unfoldable pub reason_for : Bool → Session → List ℕ → Bool → Needs → Bool → Checked
 reason_for sound s registers known needs broken = first_of (table sound s registers known needs broken)
+
+-- the published codes
+abbrev pub code_number : Code → ℕ
+code_number Success = 1
+code_number ParamError = 2
+code_number WriteError = 3
+code_number SystemError = 4
+code_number Timeout = 5
+code_number Busy = 6
+code_number WindowError = 7
+code_number SeqError = 8
 
 -- the codes: 4 SYSTEM_ERROR, 8 SEQ_ERROR, 2 PARAM_ERROR, 6 BUSY, 7 WINDOW_ERROR, 1 SUCCESS; at versions 0 and 1
 -- code 2 stands for 8 and 5 for 6, at version 1 code 2 for 7 (version 0 does not know those commands). WRITE_ERROR (3) is told after a flush, in

@@ -1,6 +1,6 @@
-// The checks of the table in their order, and the response code of each.
+// The checks of the table in their order.
 ghost use Rattle.std.specs.Prelude.{◌≡◌, true};
-ghost use Rattle.refusals.specs.Refusals.{reason_for, code_for};
+ghost use Rattle.refusals.specs.Refusals.{reason_for};
 
 use crate::{Needs, Reason};
 use session::{Session, Window};
@@ -33,20 +33,4 @@ pub fn check(
         return Err(Reason::Argument);
     }
     Ok(())
-}
-
-// The response code at the agreed version, of a command that no check refuses too.
-pub fn code_for(version: u8, checked: Result<(), Reason>) -> u8
-    ensures { result ≡ code_for version checked }
-{
-    let early = version < 2;
-    match checked {
-        Ok(()) => 1,
-        Err(Reason::System) => 4,
-        Err(Reason::Repeated) => if early { 2 } else { 8 },
-        Err(Reason::Unknown) => 2,
-        Err(Reason::Suspended) => if early { 5 } else { 6 },
-        Err(Reason::Windowless) => if early { 2 } else { 7 },
-        Err(Reason::Argument) => 2,
-    }
 }

@@ -6,10 +6,12 @@
 
 mod blocks;
 mod checks;
+mod codes;
 mod flags;
 
 pub use blocks::{blocks_named, flush_marks, flush_outside};
-pub use checks::{check, code_for};
+pub use checks::check;
+pub use codes::{Code, code_for};
 pub use flags::undefined_flags;
 
 // The check of the table that refuses a command.

@@ -12,7 +12,7 @@ pub returns-then-not-is_sound_at : goal.returns-then-not-is_sound_at
 returns-then-not-is_sound_at c =
     let a = c.args in
     let m = lent a.session a.flash.now a.worn.now a.memory.now in
-    rw c.replied.ensures (sym (unsound_as (set_up a.board) a.registers m (sym c.is_sound_at.ensures ∙ c.if-not-is_sound_at.true)))
+    rw (c.replied.ensures, c.from.ensures) (sym (unsound_as (set_up a.board) a.registers m (sym c.is_sound_at.ensures ∙ c.if-not-is_sound_at.true)))
 
 pub invariant_of-call : goal.invariant_of-call
 invariant_of-call c =

@@ -23,5 +23,12 @@ returns c flash worn =
     let some : c.blocks_named.result ≡ Some c.in_ok-named.named = search rules in
     let n = range_some (blocks_named c.args.call.session c.args.call.registers) c.in_ok-named.named (sym c.blocks_named.ensures ∙ some) in
     let s = served_last erase c.args.call flash worn c.args.memory.now refl c.check.ensures a (ap not n.0) in
-    rw (c.answer.ensures, c.fill_blocks.ensures, c.marked-marked.ensures.session, c.marked-marked.ensures.registers, c.numbered.ensures.session,
-    c.numbered.ensures.registers, n.1) s
+    rw (
+      c.answer.ensures,
+      c.fill_blocks.ensures,
+      c.marked-marked.ensures.session,
+      c.marked-marked.ensures.registers,
+      c.numbered.ensures.session,
+      c.numbered.ensures.registers,
+      n.1,
+    ) s
