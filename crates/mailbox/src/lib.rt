@@ -25,7 +25,7 @@ use marks::{acknowledge, erase, flush, mark_dirty};
 use refusals::{Code, Reason};
 use registers::{NO_ARGUMENTS, replied};
 use session::{Board, Session, Window};
-use soundness::is_sound_at;
+use soundness::{Lengths, is_sound_at};
 use windows::{close_window, create, reset};
 
 // What a command gives back: the session, the 16 registers and the number of chip actions.
@@ -48,8 +48,13 @@ pub fn command(
     ensures { outcome result flash.new worn.now memory.new
         ≡ mediate (set_up board) registers (lent session flash.old worn.now memory.old) }
 {
+    let lent = Lengths {
+        flash: flash.len(),
+        worn: worn.len(),
+        memory: memory.len(),
+    };
     // SYSTEM_ERROR keeps the previous number
-    if !is_sound_at(session, board, flash.len(), worn.len(), memory.len()) {
+    if !is_sound_at(session, board, lent) {
         return Answer {
             session,
             registers: replied(

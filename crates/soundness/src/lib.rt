@@ -12,7 +12,7 @@ ghost use Rattle.session.specs.Machine.{set_up};
 ghost use Rattle.soundness.specs.Soundness.{sound, sound_at, size_sound, access_sound, active_sound, window_sound, markable, marks_sound, counts_sound, session_sound};
 
 use marks::look_at;
-pub use marks::{larger, with_marks};
+pub use marks::with_marks;
 pub use pending_work::{PendingWork, pending};
 use session::{Board, Session, Window, is_control_lost, same_counts};
 use units::Bytes;
@@ -27,27 +27,34 @@ const MOST_MEMORY: u32 = 64;
 
 const LPC_BLOCKS: u64 = 65536;
 
+// The lengths of what a call is lent, in bytes: the flash, its map of worn blocks and the window memory.
+#[derive(Clone, Copy)]
+pub struct Lengths {
+    pub flash: usize,
+    pub worn: usize,
+    pub memory: usize,
+}
+
 // The lent sizes, in bytes, and the session are sound; the map of worn blocks has a byte for each block of the flash.
 #[tactic(auto, using(crate::proofs::Facts::block_count), unfolding(crate::specs::Soundness::sound, crate::specs::Soundness::sizes_sound))]
-pub fn is_sound(session: Session, flash: usize, worn: usize, memory: usize) -> bool
-    ensures { result ≡ sound flash worn memory session }
+pub fn is_sound(session: Session, lent: Lengths) -> bool
+    ensures { result ≡ sound lent.flash lent.worn lent.memory session }
 {
-    let flash_blocks = Bytes(flash as u64).blocks().0;
-    let memory_blocks = Bytes(memory as u64).blocks().0;
-    size_is_sound(MOST_FLASH, flash)
-        && size_is_sound(MOST_MEMORY, memory)
-        && worn == flash_blocks as usize
+    let flash_blocks = Bytes(lent.flash as u64).blocks().0;
+    let memory_blocks = Bytes(lent.memory as u64).blocks().0;
+    size_is_sound(MOST_FLASH, lent.flash)
+        && size_is_sound(MOST_MEMORY, lent.memory)
+        && lent.worn == flash_blocks as usize
         && session_is_sound(session, flash_blocks, memory_blocks)
 }
 
 // The same, with B: the window memory ends within the LPC blocks.
 #[tactic(auto, using(crate::proofs::Facts::sound_block_count), unfolding(crate::specs::Soundness::sound_at))]
-pub fn is_sound_at(session: Session, board: Board, flash: usize, worn: usize, memory: usize) -> bool
-    ensures { result ≡ sound_at (set_up board) flash worn memory session }
+pub fn is_sound_at(session: Session, board: Board, lent: Lengths) -> bool
+    ensures { result ≡ sound_at (set_up board) lent.flash lent.worn lent.memory session }
 {
-    let memory_blocks = Bytes(memory as u64).blocks().0;
-    is_sound(session, flash, worn, memory)
-        && u64::from(board.lpc) + u64::from(memory_blocks) <= LPC_BLOCKS
+    let memory_blocks = Bytes(lent.memory as u64).blocks().0;
+    is_sound(session, lent) && u64::from(board.lpc) + u64::from(memory_blocks) <= LPC_BLOCKS
 }
 
 // Whole blocks, at least one and at most so many.

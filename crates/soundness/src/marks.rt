@@ -1,5 +1,5 @@
 // One look at all marks, and a session with others.
-ghost use Rattle.std.specs.Prelude.{◌≡◌, cond, ◌&&◌, List, ◌∷◌, ℕ, ◌<◌, max, leb, eqb};
+ghost use Rattle.std.specs.Prelude.{◌≡◌, cond, ◌&&◌, List, ◌∷◌, ℕ, ◌<◌, leb, eqb};
 ghost use Rattle.session.specs.Marks.{counts_of};
 ghost use Rattle.session.specs.Record.{with_marks};
 ghost use Rattle.soundness.specs.Soundness.{marks_sound};
@@ -31,8 +31,8 @@ pub(crate) fn look_at(marks: [u8; 64], markable: u16) -> Look
     let mut counts = ZERO_COUNTS;
     for block in 0..64u8 {
         let mark = marks[block as usize];
-        largest = larger(largest, mark);
-        end = larger(end, end_if_marked(mark, block + 1));
+        largest = largest.max(mark);
+        end = end.max(end_if_marked(mark, block + 1));
         counts = count(counts, mark);
     }
     Look {
@@ -53,13 +53,6 @@ fn is_within(largest: u8, end: u8, markable: u16) -> bool
     ensures { result ≡ (leb largest 2 && leb end markable) }
 {
     largest <= LAST_MARK && u16::from(end) <= markable
-}
-
-// The larger of two, under the name that docs/STATEMENTS.md gives it.
-pub fn larger(a: u8, b: u8) -> u8
-    ensures { result ≡ max a b }
-{
-    a.max(b)
 }
 
 // Where a block ends, if it is marked.
