@@ -2,12 +2,14 @@
 ghost use Rattle.std.specs.Prelude.{◌≡◌, Err};
 ghost use Rattle.session.specs.Suspension.{left};
 ghost use Rattle.flush.specs.Window.{step_code, step_yes};
+ghost use Rattle.refusals.specs.Refusals.{code_number};
 ghost use Rattle.board.specs.Record.{session_of};
 ghost use Rattle.board.specs.Calls.{answer_of, suspended_record, resumed_record, changed_record, stepped_by, stepped_record};
 
 use crate::convert::{is_regular, record_of};
 use crate::{Record, Stepped, Suspended};
 use flush::{StepError, advance};
+use refusals::Code;
 use session::{Session, resume, resume_changed, suspend};
 
 // Flash access is suspended.
@@ -65,21 +67,24 @@ fn stepped(step: Result<bool, StepError>) -> Stepped
     ensures { (result.code ≡ step_code step) × (result.acted ≡ step_yes step) }
 {
     match step {
-        Ok(acted) => Stepped { code: 1, acted },
+        Ok(acted) => Stepped {
+            code: u8::from(Code::Success),
+            acted,
+        },
         Err(error) => Stepped {
-            code: code_of(error),
+            code: u8::from(code_of(error)),
             acted: false,
         },
     }
 }
 
 // The code of a step that is refused, or whose erase fails.
-fn code_of(error: StepError) -> u8
-    ensures { result ≡ step_code (Err error) }
+fn code_of(error: StepError) -> Code
+    ensures { code_number result ≡ step_code (Err error) }
 {
     match error {
-        StepError::Unsound => 4,
-        StepError::Suspended => 6,
-        StepError::Failed => 3,
+        StepError::Unsound => Code::SystemError,
+        StepError::Suspended => Code::Busy,
+        StepError::Failed => Code::WriteError,
     }
 }

@@ -1,11 +1,13 @@
 // A list of marks in one call, over a record.
 ghost use Rattle.std.specs.Prelude.{◌≡◌, Err, false};
 ghost use Rattle.session.specs.Machine.{set_up};
+ghost use Rattle.refusals.specs.Refusals.{code_number};
 ghost use Rattle.board.specs.Calls.{board, list_reply_of, marked_record, listed_record};
 
 use crate::convert::{is_regular, record_of};
 use crate::{ListReply, Record};
 use marklist::{ListError, mark_list};
+use refusals::Code;
 use session::{Board, Session};
 use soundness::Lengths;
 
@@ -30,7 +32,7 @@ pub fn hiomap_mark_list(
     match mark_all(*held, list, Board { lpc, timeout }, lent) {
         Ok(marked) => {
             *held = marked;
-            unnamed(1)
+            unnamed(Code::Success)
         }
         Err(refused) => refusal_of(refused),
     }
@@ -53,13 +55,13 @@ fn refusal_of(refused: ListError) -> ListReply
     ensures { result ≡ list_reply_of (Err refused) }
 {
     match refused {
-        ListError::Unsound => unnamed(4),
-        ListError::OtherVersion => unnamed(2),
-        ListError::Suspended => unnamed(6),
-        ListError::Windowless => unnamed(7),
-        ListError::Malformed => unnamed(2),
+        ListError::Unsound => unnamed(Code::SystemError),
+        ListError::OtherVersion => unnamed(Code::ParamError),
+        ListError::Suspended => unnamed(Code::Busy),
+        ListError::Windowless => unnamed(Code::WindowError),
+        ListError::Malformed => unnamed(Code::ParamError),
         ListError::Outside(place) => ListReply {
-            code: 2,
+            code: u8::from(Code::ParamError),
             named: true,
             place,
         },
@@ -67,11 +69,11 @@ fn refusal_of(refused: ListError) -> ListReply
 }
 
 // An answer that names no pair.
-fn unnamed(code: u8) -> ListReply
-    ensures { result ≡ record { code = code; named = false; place = 0 } }
+fn unnamed(code: Code) -> ListReply
+    ensures { result ≡ record { code = code_number code; named = false; place = 0 } }
 {
     ListReply {
-        code,
+        code: u8::from(code),
         named: false,
         place: 0,
     }
