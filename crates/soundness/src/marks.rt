@@ -12,7 +12,8 @@ const LAST_MARK: u8 = 2;
 // A look at the numbers alone: any block may be marked.
 pub(crate) const EVERY_BLOCK: u16 = 64;
 
-// What the look tells: whether the marks are those of a window of which so many blocks may be marked, and their numbers.
+// What the look tells: whether the marks are those of a window of which so many blocks may be marked, and their numbers,
+// which mean something either way, so that this is no Option.
 #[derive(Clone, Copy)]
 pub struct Look {
     pub within: bool,
