@@ -20,9 +20,9 @@ pub struct Look {
     pub counts: Counts,
 }
 
-// All marks are looked at, whatever the first ones are: a loop without a way out, with a count as narrow as
-// a mark beside the place, compiles to a few vector instructions. So it keeps the largest mark and where the
-// last marked block ends, and compares them when it is over.
+// All marks are looked at, whatever the first ones are: a loop without a way out, whose count is as narrow as
+// a mark, compiles to a few vector instructions. So it keeps the largest mark and where the last marked block
+// ends, and compares them when it is over.
 #[tactic(auto, using(crate::proofs::SoundMarks::looked_more, crate::proofs::Counting::counts_more, crate::proofs::Counting::few_counted))]
 pub(crate) fn look_at(marks: [u8; 64], markable: u16) -> Look
     ensures { (result.within ≡ marks_sound markable marks) × (result.counts ≡ counts_of marks) }
