@@ -103,7 +103,8 @@ fn failing_in(session: Session, worn: &[u8]) -> Option<u32>
     failing_block(&worn[start..end], session.marks)
 }
 
-// All actions of these marks in a window that lies in the flash.
+// All actions of these marks in a window that lies in the flash. No closure over the part for this and the next: its own clauses
+// would say what these two say.
 #[tactic(auto, using(crate::proofs::InWindow::performed))]
 fn flush_part(session: Session, marks: [u8; 64], flash: &mut [u8], memory: &[u8]) -> u32
     requires { part_end session ≤ length flash.old }

@@ -78,6 +78,7 @@ pub fn command(
 }
 
 // The published table of commands in its order. RESET, GET_INFO and ACK are unversioned; 11 and 12 are version 3's.
+// A match and no table of functions: each command is lent something else, and a table's rows would be boxed.
 #[tactic(auto, using(crate::proofs::Arms::read_row, crate::proofs::Arms::write_row, crate::proofs::Arms::erase_row, crate::proofs::Arms::past_row))]
 fn run(call: Call, flash: &mut [u8], worn: &[u8], memory: &mut [u8]) -> Result<Answer, Reason>
     requires sizes { (size_sound 65535 (length flash.old) ≡ true) × (size_sound 64 (length memory.old) ≡ true) }

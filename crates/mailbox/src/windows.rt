@@ -42,7 +42,7 @@ pub(crate) fn close_window(
 }
 
 // CREATE_READ_WINDOW and CREATE_WRITE_WINDOW: opens a window. Where its block lies outside the flash, the active window is
-// closed all the same.
+// closed all the same. The sizes are facts about lent slices, and stay clauses: a struct of slices is no plainer (crate lent).
 pub(crate) fn create(
     window: Window,
     call: Call,

@@ -74,7 +74,7 @@ fn session_is_sound(session: Session, flash: u32, memory: u32) -> bool
     session.version <= LAST_VERSION
         && access_is_sound(session.suspended, session.events)
         && window_is_sound(session.window, session.first, session.size, flash, memory)
-        && marks_are_sound(session)
+        && marks_and_counts_are_sound(session)
 }
 
 // The event byte tells a suspension exactly while there is one.
@@ -100,7 +100,7 @@ fn active_is_sound(first: u16, size: u16, flash: u32, memory: u32) -> bool
 }
 
 // The marks are those of the window, and the kept numbers theirs.
-fn marks_are_sound(session: Session) -> bool
+fn marks_and_counts_are_sound(session: Session) -> bool
     ensures { result ≡ (marks_sound (markable session.window session.size) session.marks && counts_sound session) }
 {
     let look = look_at(session.marks, markable_blocks(session.window, session.size));

@@ -12,16 +12,17 @@ const LAST_MARK: u8 = 2;
 // A look at the numbers alone: any block may be marked.
 pub(crate) const EVERY_BLOCK: u16 = 64;
 
-// What the look tells: whether the marks are those of a window of which so many blocks may be marked, and their numbers.
+// What the look tells: whether the marks are those of a window of which so many blocks may be marked, and their numbers,
+// which mean something either way, so that this is no Option.
 #[derive(Clone, Copy)]
 pub struct Look {
     pub within: bool,
     pub counts: Counts,
 }
 
-// All marks are looked at, whatever the first ones are: a loop without a way out, with a count as narrow as
-// a mark beside the place, compiles to a few vector instructions. So it keeps the largest mark and where the
-// last marked block ends, and compares them when it is over.
+// All marks are looked at, whatever the first ones are: a loop without a way out, whose count is as narrow as
+// a mark, compiles to a few vector instructions. So it keeps the largest mark and where the last marked block
+// ends, and compares them when it is over.
 #[tactic(auto, using(crate::proofs::SoundMarks::looked_more, crate::proofs::Counting::counts_more, crate::proofs::Counting::few_counted))]
 pub(crate) fn look_at(marks: [u8; 64], markable: u16) -> Look
     ensures { (result.within ≡ marks_sound markable marks) × (result.counts ≡ counts_of marks) }
