@@ -21,6 +21,7 @@ fn read_full(mut stdin: Stdin, buffer: &mut [u8]) -> usize
     ensures { result ≤ length buffer.new }
 {
     let mut size = 0;
+    // a while, since a read tells how far it moves; read_to_end needs a heap, and says no size after an error
     while size < buffer.len() {
         let count = stdin.read(&mut buffer[size..]).unwrap_or(0);
         if count == 0 {

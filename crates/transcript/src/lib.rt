@@ -55,6 +55,7 @@ fn run_records(input: &[u8], flash: &mut [u8], memory: &mut [u8], printed: &mut 
     };
     let mut session = new_session();
     let mut at = 0;
+    // a while, since `at` moves by the length of a record, which reading it tells
     while at < input.len() {
         let Some(step) = serve_at(input, at, session, board, flash, memory) else {
             printed.put_bad(at);
