@@ -17,7 +17,7 @@ const PAGE: usize = 256;
 pub const PAGES: u32 = 16;
 
 // What an erased byte holds.
-const ERASED: u8 = 0xff;
+pub const ERASED: u8 = 0xff;
 
 // Erases a block: the action itself, `fill`, is lent only the block's own bytes.
 pub fn erase_block(flash: &mut [u8], block: Blocks) -> bool

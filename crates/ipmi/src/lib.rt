@@ -41,7 +41,7 @@ pub fn serve_message(
         Ok(registers) => serve_command(session, board, message, registers, flash, worn, memory),
         Err(refused) => Reply {
             session,
-            response: refuse(refused, message),
+            response: refuse(Err(refused), message),
             actions: 0,
         },
     }

@@ -17,7 +17,8 @@ pub struct ServedMessage {
 }
 
 // Serves one message for the board's pair. What is refused leaves the record as it is.
-// A twin of ipmi's: a trait for both, with what a command leaves as a ghost member and an impl in each crate, is longer than the two.
+// A twin of ipmi's, as `serve_command` is, over C's record: a trait for both would need a type for the session, a ghost member for what a
+// command leaves and one for each clause here, and an impl in each crate, where two short functions stand now.
 #[tactic(auto, using(crate::proofs::Messaging::messaged_command, crate::proofs::Messaging::messaged_refused))]
 pub(crate) fn serve_message(
     held: Record,
@@ -33,7 +34,7 @@ pub(crate) fn serve_message(
 {
     match open_message(pair, held.version, message) {
         Ok(registers) => serve_command(held, board, message, registers, flash, worn, memory),
-        Err(refused) => with_response(held, refuse(refused, message), 0),
+        Err(refused) => with_response(held, refuse(Err(refused), message), 0),
     }
 }
 

@@ -69,6 +69,11 @@ pub mediated_by : (setup : Setup) (registers : List ℕ) (m : Machine) → sound
 unfolding mediate
 mediated_by setup registers m s = ap (λ (b : Bool). obeyed (command_in registers) b setup registers m) (sym s)
 
+-- where they are, the row of the code that the registers hold
+pub row_at : (n : ℕ) (setup : Setup) (registers : List ℕ) (m : Machine) → command_of registers ≡ n → sound_in setup m ≡ true
+    → obeyed (command_at n) true setup registers m ≡ mediate setup registers m
+row_at n setup registers m c s = ap (λ (k : ℕ). obeyed (command_at k) true setup registers m) (sym c) ∙ mediated_by setup registers m s
+
 -- what holds of every row with its code, and of any code without one, holds of the command of any code
 pub each_command : (P : ℕ → Command → Type 0) → P reset.code reset → P get_info.code get_info → P get_flash_info.code get_flash_info
     → P create_read_window.code create_read_window → P close_window.code close_window → P create_write_window.code create_write_window

@@ -1,4 +1,4 @@
-// A call of the mediator as each command gets it: its checks, and its number.
+// A call of the mediator as each command gets it, and its checks.
 ghost use Rattle.std.specs.Prelude.{◌≡◌, ◌≤◌, true, leb};
 ghost use Rattle.session.specs.Marks.{counts_of};
 ghost use Rattle.refusals.specs.Refusals.{reason_for};
@@ -18,7 +18,7 @@ pub struct Call {
 
 impl Call {
     // The call with another session.
-    pub(crate) fn with(self, session: Session) -> Call
+    pub(crate) fn with_session(self, session: Session) -> Call
         requires few { session.size ≤ 64 }
         requires counted { session.counts ≡ counts_of session.marks }
         ensures session { result.session ≡ session }

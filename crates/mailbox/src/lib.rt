@@ -5,9 +5,9 @@
 
 mod answers;
 mod call;
-mod calls;
 mod info;
 mod marks;
+mod numbering;
 mod windows;
 
 ghost use Rattle.std.specs.Prelude.{◌≡◌, ◌≤◌, true, length};
@@ -19,9 +19,9 @@ ghost use Rattle.mailbox.specs.Mediator.{command_in, mediate};
 ghost use Rattle.mailbox.specs.Calls.{ran, obeyed_by};
 
 use call::Call;
-use calls::unknown;
 use info::{get_flash_info, get_info};
 use marks::{acknowledge, erase, flush, mark_dirty};
+use numbering::unknown;
 use refusals::{Code, Reason};
 use registers::{NO_ARGUMENTS, replied};
 use session::{Board, Session, Window};

@@ -87,7 +87,7 @@ fn fill_blocks(memory: &mut [u8], named: BlockRange)
 {
     let start = Blocks(named.start).bytes().0 as usize;
     let end = start + Blocks(named.count).bytes().0 as usize;
-    fill(&mut memory[start..end], 0xff);
+    fill(&mut memory[start..end], chip::ERASED);
 }
 
 // All marked blocks are flushed, up to the first whose erase fails.
@@ -123,14 +123,14 @@ impl Call {
             counts = recount(counts, marks[at], mark);
             marks[at] = mark;
         }
-        self.with(with_counted(self.session, marks, counts))
+        self.with_session(with_counted(self.session, marks, counts))
     }
 }
 
 // The numbers of some marks, with one of them replaced.
 fn recount(counts: Counts, old: u8, mark: u8) -> Counts
-    requires bound { (of_kind dirty old ≤ counts.dirty) × (of_kind erased_mark old ≤ counts.erased) }
-    requires dirty_bound { (counts.dirty ≤ 64) × (counts.erased ≤ 64) }
+    requires counted { (of_kind dirty old ≤ counts.dirty) × (of_kind erased_mark old ≤ counts.erased) }
+    requires few { (counts.dirty ≤ 64) × (counts.erased ≤ 64) }
     ensures { (marks : List ℕ) (at : ℕ) → at < length marks → get_or marks at 0 ≡ old → counts ≡ counts_of marks → result ≡ counts_of (set marks at mark) }
 {
     Counts {

@@ -88,9 +88,9 @@ fn close_first(call: Call, flash: &mut [u8], worn: &[u8], memory: &[u8]) -> Answ
 
 // The active window is closed, and a new one is opened at a block of the flash.
 fn open_at(window: Window, call: Call, flash: &mut [u8], worn: &[u8], memory: &mut [u8]) -> Answer
-    requires registers_bound { number 2 0 call.registers < round_up (length flash.old) }
-    requires flash_value { (to_bytes (round_up (length flash.old)) ≡ length flash.old) × (round_up (length flash.old) ≤ 65535) }
-    requires memory_value { (to_bytes (round_up (length memory.old)) ≡ length memory.old) × (round_up (length memory.old) ≤ 64) }
+    requires inside { number 2 0 call.registers < round_up (length flash.old) }
+    requires flash_blocks { (to_bytes (round_up (length flash.old)) ≡ length flash.old) × (round_up (length flash.old) ≤ 65535) }
+    requires memory_blocks { (to_bytes (round_up (length memory.old)) ≡ length memory.old) × (round_up (length memory.old) ≤ 64) }
     ensures { outcome result flash.new worn.now memory.new
         ≡ created window (set_up call.board) call.registers (lent call.session flash.old worn.now memory.old) }
 {
@@ -129,8 +129,8 @@ fn open_window(
     worn: &[u8],
     memory: &mut [u8],
 ) -> Answer
-    requires size_in_bounds { to_bytes first + to_bytes size ≤ length flash.old }
-    requires size_in_bounds_2 { to_bytes size ≤ length memory.old }
+    requires in_flash { to_bytes first + to_bytes size ≤ length flash.old }
+    requires in_memory { to_bytes size ≤ length memory.old }
     ensures { outcome result flash.new worn.now memory.new
         ≡ opening window first size (set_up call.board) call.registers (lent call.session flash.old worn.now memory.old) }
 {
@@ -144,8 +144,8 @@ fn open_window(
 
 // The blocks of the flash go to the front of the memory.
 fn copy_blocks(flash: &[u8], memory: &mut [u8], first: u16, size: u16)
-    requires size_in_bounds { to_bytes first + to_bytes size ≤ length flash.now }
-    requires size_in_bounds_2 { to_bytes size ≤ length memory.old }
+    requires in_flash { to_bytes first + to_bytes size ≤ length flash.now }
+    requires in_memory { to_bytes size ≤ length memory.old }
     ensures { memory.new ≡ replace 0 (range (to_bytes first) (to_bytes size) flash.now) memory.old }
 {
     let start = Blocks(u32::from(first)).bytes().0 as usize;

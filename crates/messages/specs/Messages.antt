@@ -102,6 +102,11 @@ refusal Short message = []
 refusal Foreign message = headed message 0xc1
 refusal Malformed message = headed message 0xc7
 
+-- what is answered by what became of a message. A message that is taken has no refusal: it is never asked for (house)
+abbrev pub refusal_for : Taken → List ℕ → List ℕ
+refusal_for Command message = []
+refusal_for (Err refused) message = refusal refused message
+
 -- each parameter goes from its M offset to its I offset
 abbrev pub packed : List Parameter → List ℕ → List ℕ → List ℕ
 packed [] arguments given = given

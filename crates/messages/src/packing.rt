@@ -2,23 +2,23 @@
 ghost use Rattle.std.specs.Prelude.{◌≡◌, ◌&&◌, ◌+◌, ◌*◌, ◌/◌, ◌%◌, eqb};
 ghost use Rattle.registers.specs.Registers.{padded};
 ghost use Rattle.messages.specs.Parameters.{row_of};
-ghost use Rattle.messages.specs.Messages.{made_odd, headed, refusal, values_of, response_of, laid};
+ghost use Rattle.messages.specs.Messages.{made_odd, headed, refusal_for, values_of, response_of, laid};
 
 use crate::lengths::response_bytes;
 use crate::taking::byte_at;
 use crate::{Refusal, Response};
 
-// The empty response, or three bytes with C1 or C7.
-pub fn refuse(refused: Refusal, message: &[u8]) -> Response
-    ensures { result ≡ laid (refusal refused message.now) }
+// The empty response, or three bytes with C1 or C7. A message that was taken has no refusal.
+pub fn refuse(taken: Result<(), Refusal>, message: &[u8]) -> Response
+    ensures { result ≡ laid (refusal_for taken message.now) }
 {
-    match refused {
-        Refusal::Short => Response {
+    match taken {
+        Ok(()) | Err(Refusal::Short) => Response {
             bytes: [0; 16],
             length: 0,
         },
-        Refusal::Foreign => complete(message, 0xc1),
-        Refusal::Malformed => complete(message, 0xc7),
+        Err(Refusal::Foreign) => complete(message, 0xc1),
+        Err(Refusal::Malformed) => complete(message, 0xc7),
     }
 }
 

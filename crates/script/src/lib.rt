@@ -7,11 +7,11 @@ ghost use Rattle.std.specs.Prelude.{◌≡◌, length, IfSome};
 ghost use Rattle.std.specs.Option.{option_map};
 ghost use Rattle.session.specs.Machine.{set_up, lent};
 ghost use Rattle.session.specs.Suspension.{left};
-ghost use Rattle.script.specs.Effects.{none_worn, fill_allowed, filled, silent, effected, effect, effect_read};
+ghost use Rattle.script.specs.Effects.{none_worn, fill_allowed, filled, silent, effected, effect_read};
 ghost use Rattle.records.specs.Records.{next_of, record_at};
 
 use mailbox::command;
-use records::{Record, read_record};
+use records::{Item, Record, read_record};
 use session::{Board, Session, Window, resume, resume_changed, suspend};
 use units::Blocks;
 
@@ -44,26 +44,26 @@ pub fn serve_at(
     ensures next { IfSome result (λ s. s.next ≡ next_of (record_at input.now at)) }
 {
     let item = read_record(input, at)?;
-    let served = serve(item.body, session, board, flash, memory)?;
+    let served = serve(Some(item), session, board, flash, memory)?;
     Some(Step {
         served,
         next: item.next,
     })
 }
 
-// Carries out a record; none where it breaks a rule, and then nothing is changed. A command is lent the
-// map of the bench's chip, four good blocks, so that with a flash of another size it is refused.
+// Carries out what was read; none where a rule is broken, and then nothing is changed. A command is lent
+// the map of the bench's chip, four good blocks, so that with a flash of another size it is refused.
 pub fn serve(
-    body: Record,
+    item: Option<Item>,
     session: Session,
     board: Board,
     flash: &mut [u8],
     memory: &mut [u8],
 ) -> Option<Served>
     ensures { effected session result flash.new memory.new
-        ≡ effect (set_up board) body (lent session flash.old none_worn memory.old) }
+        ≡ effect_read (set_up board) item (lent session flash.old none_worn memory.old) }
 {
-    match body {
+    match item?.body {
         Record::Command { registers } => {
             // S = 4, and no block is worn
             let worn = [0u8; 4];

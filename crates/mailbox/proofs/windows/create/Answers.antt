@@ -18,11 +18,11 @@ returns-in_err-check c =
     let a = c.args in
     let f = refused_first (create (command_of a.call.registers) a.window) a.call a.flash.now a.worn.now a.memory.now refl c.check.ensures in search rules
 
-pub open_at-requires-clause-flash_value : goal.open_at-requires-clause-flash_value
-open_at-requires-clause-flash_value c = let f = sized 65535 (length c.args.flash.now) c.requires.0 in (f.whole, f.few)
+pub open_at-requires-clause-flash_blocks : goal.open_at-requires-clause-flash_blocks
+open_at-requires-clause-flash_blocks c = let f = sized 65535 (length c.args.flash.now) c.requires.0 in (f.whole, f.few)
 
-pub open_at-requires-clause-memory_value : goal.open_at-requires-clause-memory_value
-open_at-requires-clause-memory_value c = let m = sized 64 (length c.args.memory.now) c.requires.1 in (m.whole, m.few)
+pub open_at-requires-clause-memory_blocks : goal.open_at-requires-clause-memory_blocks
+open_at-requires-clause-memory_blocks c = let m = sized 64 (length c.args.memory.now) c.requires.1 in (m.whole, m.few)
 
 pub returns-then-outside : goal.returns-then-outside
 returns-then-outside c =

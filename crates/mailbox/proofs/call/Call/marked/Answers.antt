@@ -6,8 +6,8 @@ use Rattle.soundness.proofs.Counting.{marks_most, marks_some}
 use Rattle.buffers.proofs.Stores.{replaced_more}
 use Rattle.mailbox.proofs.call.Call.marked.Goals as goal
 
-pub recount-counts-requires-clause-bound : goal.recount-counts-requires-clause-bound
-recount-counts-requires-clause-bound c =
+pub recount-counts-requires-clause-counted : goal.recount-counts-requires-clause-counted
+recount-counts-requires-clause-counted c =
     let l = c.loop-at in
     let long = l.invariant.2 in
     let dirty = ap (λ (n : Counts). n.dirty) l.invariant.1 in
@@ -16,8 +16,8 @@ recount-counts-requires-clause-bound c =
     let erased_there = marks_some 2 l.marks l.at (omega arith) in
     (omega (arith, dirty, dirty_there), omega (arith, erased, erased_there))
 
-pub recount-counts-requires-clause-dirty_bound : goal.recount-counts-requires-clause-dirty_bound
-recount-counts-requires-clause-dirty_bound c =
+pub recount-counts-requires-clause-few : goal.recount-counts-requires-clause-few
+recount-counts-requires-clause-few c =
     let l = c.loop-at in
     let long = l.invariant.2 in
     let dirty = ap (λ (n : Counts). n.dirty) l.invariant.1 in

@@ -19,7 +19,7 @@ impl Call {
         ensures registers { result.registers ≡ self.registers }
         ensures board { result.board ≡ self.board }
     {
-        self.with(with_previous(self.session, Some(self.registers[1])))
+        self.with_session(with_previous(self.session, Some(self.registers[1])))
     }
 
     // A refusal by a check after the first: the call's number becomes the previous one.
