@@ -17,6 +17,10 @@ use Rattle.mailbox.specs.Mediator.{reason_of, answer_to, obeyed}
 use Rattle.mailbox.specs.Calls.{ran, obeyed_by}
 use Rattle.mailbox.proofs.Mediating.{asked_as}
 
+-- a command that is refused is not accepted
+pub not_accepted : (r : Reason) → ◌≡◌ {A = Checked} (Err r) Accepted → ⊥
+not_accepted r e = cc
+
 -- every version knows what is known from 0 on
 pub known_always : (version : ℕ) → leb 0 version ≡ true
 known_always version = le-leb 0 version (omega arith)
@@ -36,12 +40,9 @@ module _ (s : Session) (registers : List ℕ) (known : Bool) (needs : Needs) whe
       past (needs_number needs && is_previous s.previous (sequence_of registers)) p1
       (past (not known) p2
       (past (needs_access needs && s.suspended) p3
-      (past (needs_window needs && not (is_write s.window)) p4 (λ (q : Accepted ≡ Err r). absurd (not_both q)))))
+      (past (needs_window needs && not (is_write s.window)) p4 (λ (q : Accepted ≡ Err r). absurd (not_accepted r (sym q))))))
       e
     where
-      not_both : Accepted ≡ Err r → ⊥
-      not_both q = cc
-
       inj : (q : Reason) → ◌≡◌ {A = Checked} (Err q) (Err r) → q ≡ r
       inj q e = cc
 
@@ -56,12 +57,9 @@ module _ (s : Session) (registers : List ℕ) (known : Bool) (needs : Needs) whe
       past (needs_number needs && is_previous s.previous (sequence_of registers)) (Err Repeated)
       (past (not known) (Err Unknown)
       (past (needs_access needs && s.suspended) (Err Suspended)
-      (past (needs_window needs && not (is_write s.window)) (Err Windowless) (λ (q : Accepted ≡ Err r). absurd (not_both q)))))
+      (past (needs_window needs && not (is_write s.window)) (Err Windowless) (λ (q : Accepted ≡ Err r). absurd (not_accepted r (sym q))))))
       e
     where
-      not_both : Accepted ≡ Err r → ⊥
-      not_both q = cc
-
       past : (t : Bool) (z : Checked) {x y : Checked} → (x ≡ Err r → y ≡ Err r) → cond t z x ≡ Err r → cond t z y ≡ Err r
       past true z f e = e
       past false z f e = f e
@@ -140,12 +138,9 @@ module _ (call : Call) (flash worn memory : List ℕ) {r : Checked}
   unknown_checked q a =
       turned_down unknown call flash worn memory {known = false} refl {broken = false} {r = Err q} (by (is_previous call.session.previous (sequence_of call.registers)) (known_always call.session.version) (sym e ∙ a)) refl refl q refl
     where
-      not_both : Accepted ≡ Err q → ⊥
-      not_both n = cc
-
       by : (t : Bool) → leb 0 call.session.version ≡ true → cond t (Err Repeated) (cond (not (leb 0 call.session.version)) (Err Unknown) Accepted) ≡ Err q → ◌≡◌ {A = Checked} (Err q) (cond t (Err Repeated) (Err Unknown))
       by true k e = sym e
-      by false k e = let n : Accepted ≡ Err q = (rw k at e) in absurd (not_both n)
+      by false k e = let n : Accepted ≡ Err q = (rw k at e) in absurd (not_accepted q (sym n))
 
   pub unknown_passed : r ≡ Accepted → ran (Err Unknown) call flash worn memory ≡ obeyed_by unknown call flash worn memory
   unfolding reason_for

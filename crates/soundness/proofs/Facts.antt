@@ -139,6 +139,7 @@ pub record Measured (flash worn memory : ℕ) (s : Session) : Type 0 where
   pub sound : sound flash worn memory s ≡ true
   pub flash_sized : Sized 65535 flash
   pub memory_sized : Sized 64 memory
+  pub map_sized : worn ≡ round_up flash
   pub fits : Fitting (round_up flash) (round_up memory) s
 
 pub measured : (setup : Setup) (flash worn memory : ℕ) (s : Session) → sound_at setup flash worn memory s ≡ true → Measured flash worn memory s
@@ -150,5 +151,6 @@ measured setup flash worn memory s e =
       sound = t;
       flash_sized = sized 65535 flash z.0;
       memory_sized = sized 64 memory z.1;
+      map_sized = z.3;
       fits = fitting (round_up flash) (round_up memory) s z.2;
     }
