@@ -25,7 +25,7 @@ pub(crate) fn first_outside(list: &[u16], size: u16) -> Result<(), ListError>
 fn is_inside(block: u16, count: u16, size: u16) -> bool
     ensures { result ≡ leb (block + count) size }
 {
-    (block as u32) + (count as u32) <= (size as u32)
+    u32::from(block) + u32::from(count) <= u32::from(size)
 }
 
 // The marks with those of all pairs dirty: first how far the pairs reach, then block after block, so that a pair of
@@ -62,7 +62,7 @@ fn mark_reached(marks: [u8; 64], ends: [u8; 65]) -> [u8; 64]
     let mut reach = 0u8;
     for at in 0..64 {
         reach = reach.max(ends[at]);
-        next[at] = dirty_if(at < reach as usize, marks[at]);
+        next[at] = dirty_if(at < usize::from(reach), marks[at]);
     }
     next
 }
