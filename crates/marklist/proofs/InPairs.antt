@@ -10,7 +10,7 @@ use lib.Dec.{leb, ltb, eqb}
 use lib.ListN.{length, get_or, drop, length-drop}
 use lib.Seq.{drop-cons}
 use Rattle.units.proofs.Cases.{passed_by}
-use Rattle.std.specs.Prelude.{Err}
+use Rattle.std.specs.Prelude.{Err, ◌++◌}
 use Rattle.marklist.specs.declared.ListError.TheVariants.{Outside}
 use Rattle.marklist.specs.MarkList.{Pair, ListAnswer, Marked, pairs_of, malformed, first_outside}
 
@@ -68,8 +68,38 @@ answer_inside size place list h e =
     sym (answer_at size place list h
     ∙ ap (λ (inside : Bool). cond (not inside) (Err (Outside place)) (first_outside size (place + 1) (pairs_of (drop (2 * (place + 1)) list)))) e)
 
+-- a chunk of two numbers and the rest: the chunk's pair, and the rest
+pub chunk_at : (chunk rest : List ℕ) → length chunk ≡ 2
+    → pairs_of (chunk ++ rest) ≡ record { block = get_or chunk 0 0; count = get_or chunk 1 0 } ∷ pairs_of rest
+chunk_at [] rest h = absurd (omega arith)
+chunk_at (a ∷ []) rest h = absurd (omega arith)
+chunk_at (a ∷ b ∷ []) rest h = refl
+chunk_at (a ∷ b ∷ d ∷ more) rest h = absurd (omega arith)
+
+-- the answer for a chunk and the rest, by the chunk's pair
+answer_chunk : (size place : ℕ) (chunk rest : List ℕ) → length chunk ≡ 2 → first_outside size place (pairs_of (chunk ++ rest))
+    ≡ cond (not (leb (get_or chunk 0 0 + get_or chunk 1 0) size)) (Err (Outside place)) (first_outside size (place + 1) (pairs_of rest))
+answer_chunk size place chunk rest h =
+    ap (first_outside size place) (chunk_at chunk rest h)
+    ∙ ap (λ (n : ℕ). cond (not (leb (get_or chunk 0 0 + get_or chunk 1 0) size)) (Err (Outside place)) (first_outside size n (pairs_of rest))) one
+  where
+    one : suc place ≡ place + 1
+    one = omega arith
+
+pub chunk_outside : (size place : ℕ) (chunk rest : List ℕ) → length chunk ≡ 2 → leb (get_or chunk 0 0 + get_or chunk 1 0) size ≡ false
+    → Err (Outside place) ≡ first_outside size place (pairs_of (chunk ++ rest))
+chunk_outside size place chunk rest h e =
+    sym (answer_chunk size place chunk rest h
+    ∙ ap (λ (inside : Bool). cond (not inside) (Err (Outside place)) (first_outside size (place + 1) (pairs_of rest))) e)
+
+pub chunk_inside : (size place : ℕ) (chunk rest : List ℕ) → length chunk ≡ 2 → leb (get_or chunk 0 0 + get_or chunk 1 0) size ≡ true
+    → first_outside size (place + 1) (pairs_of rest) ≡ first_outside size place (pairs_of (chunk ++ rest))
+chunk_inside size place chunk rest h e =
+    sym (answer_chunk size place chunk rest h
+    ∙ ap (λ (inside : Bool). cond (not inside) (Err (Outside place)) (first_outside size (place + 1) (pairs_of rest))) e)
+
 -- no pair is left
-no_pair : (list : List ℕ) → length list < 2 → pairs_of list ≡ []
+pub no_pair : (list : List ℕ) → length list < 2 → pairs_of list ≡ []
 no_pair [] h = refl
 no_pair (a ∷ []) h = refl
 no_pair (a ∷ b ∷ list) h = absurd (omega arith)

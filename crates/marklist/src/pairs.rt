@@ -12,9 +12,8 @@ pub(crate) fn first_outside(list: &[u16], size: u16) -> Result<(), ListError>
     requires { length list.now ≤ 128 }
     ensures { result ≡ first_outside size 0 (pairs_of list.now) }
 {
-    for place in 0..list.len() / 2 {
-        let at = 2 * place;
-        if !is_inside(list[at], list[at + 1], size) {
+    for (place, pair) in list.chunks_exact(2).enumerate() {
+        if !is_inside(pair[0], pair[1], size) {
             return Err(ListError::Outside(place as u8));
         }
     }
