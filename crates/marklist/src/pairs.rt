@@ -44,10 +44,9 @@ fn farthest_ends(list: &[u16]) -> [u8; 65]
     ensures { result ≡ ends_from (pairs_of list.now) no_ends }
 {
     let mut ends = [0u8; 65];
-    for place in 0..list.len() / 2 {
-        let at = 2 * place;
-        let block = list[at] as usize;
-        let end = list[at] + list[at + 1];
+    for pair in list.chunks_exact(2) {
+        let block = pair[0] as usize;
+        let end = pair[0] + pair[1];
         ends[block] = ends[block].max(end as u8);
     }
     ends

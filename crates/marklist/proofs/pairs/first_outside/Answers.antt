@@ -1,4 +1,4 @@
-use Rattle.std.proofs.Common.{rules, ◌≡◌, ℕ, List, Err, ◌+◌, ◌<◌, length, sym, ap, ◌∙◌, arith}
+use Rattle.std.proofs.Common.{rules, ℕ, List, Err, sym, ap, ◌∙◌, arith}
 use Rattle.marklist.specs.declared.ListError.TheVariants.{Outside}
 use Rattle.marklist.specs.MarkList.{pairs_of, first_outside}
 use Rattle.marklist.proofs.InPairs.{chunk_inside, chunk_outside, no_pair}
@@ -13,7 +13,7 @@ returns-then-not-is_inside c =
     let s = c.in-Some.ensures.steps in
     ap (λ (n : ℕ). Err (Outside n)) s.1
     ∙ chunk_outside c.args.size l.place-iterator.count c.in-Some.pair.now c.next.new.self.iter.rest.now (s.0.1.1 ∙ l.invariant.0)
-      (sym c.is_inside.ensures ∙ c.if-not-is_inside.true)
+    (sym c.is_inside.ensures ∙ c.if-not-is_inside.true)
     ∙ ap (λ (t : List ℕ). first_outside c.args.size l.place-iterator.count (pairs_of t)) (sym s.0.1.0)
     ∙ l.invariant.1
 
@@ -24,7 +24,7 @@ loop-place-preserved c =
       s.0.0 ∙ l.invariant.0,
       ap (λ (n : ℕ). first_outside c.args.size n (pairs_of c.next.new.self.iter.rest.now)) s.2
           ∙ chunk_inside c.args.size l.place-iterator.count c.in-Some.pair.now c.next.new.self.iter.rest.now (s.0.1.1 ∙ l.invariant.0)
-            (sym c.is_inside.ensures ∙ c.if-not-is_inside.false)
+          (sym c.is_inside.ensures ∙ c.if-not-is_inside.false)
           ∙ ap (λ (t : List ℕ). first_outside c.args.size l.place-iterator.count (pairs_of t)) (sym s.0.1.0)
           ∙ l.invariant.1,
     )
