@@ -78,7 +78,7 @@ fn stepped(step: Result<bool, StepError>) -> Stepped
     }
 }
 
-// The code of a step that is refused, or whose erase fails.
+// The code of a step that is refused, or whose erase fails. No From: both types are other crates'.
 fn code_of(error: StepError) -> Code
     ensures { code_number result ≡ step_code (Err error) }
 {

@@ -60,7 +60,8 @@ pub(crate) fn record_of(session: Session, spare: u8) -> Record
     }
 }
 
-// These two are no From: u8 and Window are other crates' types, and the numbers are C's (include/hiomap.h).
+// The window of a number. It and the next are no From: u8 and Window are other crates' types, and the numbers are C's
+// (include/hiomap.h).
 fn window_of(number: u8) -> Window
     ensures { result ≡ window_of number }
 {
@@ -71,6 +72,7 @@ fn window_of(number: u8) -> Window
     }
 }
 
+// The number of a window.
 fn window_number(window: Window) -> u8
     ensures { result ≡ window_number window }
 {

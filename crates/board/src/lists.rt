@@ -34,7 +34,7 @@ pub fn hiomap_mark_list(
             *held = marked;
             unnamed(Code::Success)
         }
-        Err(refused) => refusal_of(refused),
+        Err(refused) => ListReply::from(refused),
     }
 }
 
@@ -51,20 +51,22 @@ fn mark_all(held: Record, list: &[u16], board: Board, lent: Lengths) -> Result<R
 }
 
 // A refusal as its code, and the place that it names.
-fn refusal_of(refused: ListError) -> ListReply
-    ensures { result ≡ list_reply_of (Err refused) }
-{
-    match refused {
-        ListError::Unsound => unnamed(Code::SystemError),
-        ListError::OtherVersion => unnamed(Code::ParamError),
-        ListError::Suspended => unnamed(Code::Busy),
-        ListError::Windowless => unnamed(Code::WindowError),
-        ListError::Malformed => unnamed(Code::ParamError),
-        ListError::Outside(place) => ListReply {
-            code: u8::from(Code::ParamError),
-            named: true,
-            place,
-        },
+impl From<ListError> for ListReply {
+    ghost from_gives = { λ refused reply. reply ≡ list_reply_of (Err refused) };
+
+    fn from(refused: ListError) -> ListReply {
+        match refused {
+            ListError::Unsound => unnamed(Code::SystemError),
+            ListError::OtherVersion => unnamed(Code::ParamError),
+            ListError::Suspended => unnamed(Code::Busy),
+            ListError::Windowless => unnamed(Code::WindowError),
+            ListError::Malformed => unnamed(Code::ParamError),
+            ListError::Outside(place) => ListReply {
+                code: u8::from(Code::ParamError),
+                named: true,
+                place,
+            },
+        }
     }
 }
 

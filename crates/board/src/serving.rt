@@ -13,7 +13,8 @@ use session::{Board, Session};
 // A version that no later one reaches, so that it is never sound.
 const UNSOUND_VERSION: u8 = 255;
 
-// What a command gives back.
+// What a command gives back: mailbox's `Answer` with C's record in place of the session. One type for both would ask for bounds on
+// that part in each clause.
 #[derive(Clone, Copy)]
 pub struct Served {
     pub held: Record,
@@ -49,7 +50,7 @@ pub fn serve(
 }
 
 // The session that a record stands for, of an unsound version where the record is not regular: so every
-// record takes one way through the mediator, and that call is compiled in place.
+// record takes one way through the mediator, and that call is compiled in place (docs/PERFORMANCE.md).
 fn served_session(held: Record, regular: bool) -> Session
     ensures { result ≡ cond regular (session_of held) (with_version 255 (session_of held)) }
 {

@@ -25,7 +25,8 @@ pub fn and(part: &mut [u8], other: &[u8])
     }
 }
 
-// Copies the bytes of other over those of the part, as far as both go.
+// Copies the bytes of other over those of the part, as far as both go. A loop of its own beside `and`: a closure over each pair of
+// bytes is no plainer than these lines.
 pub fn copy(part: &mut [u8], other: &[u8])
     ensures { part.new ≡ copy_each part.old other.now }
 {

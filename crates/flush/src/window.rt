@@ -98,8 +98,8 @@ fn failing_in(session: Session, worn: &[u8]) -> Option<u32>
     requires { session.first + session.size ≤ length worn.now }
     ensures { result ≡ failing_block (window_worn session worn.now) session.marks }
 {
-    let start = session.first as usize;
-    let end = start + session.size as usize;
+    let start = usize::from(session.first);
+    let end = start + usize::from(session.size);
     failing_block(&worn[start..end], session.marks)
 }
 
@@ -111,8 +111,8 @@ fn flush_part(session: Session, marks: [u8; 64], flash: &mut [u8], memory: &[u8]
     ensures { (result ≡ length (flush_actions marks))
         × (flash.new ≡ perform_in session memory.now (flush_actions marks) flash.old) }
 {
-    let start = Blocks(session.first as u32).bytes().0 as usize;
-    let end = start + Blocks(session.size as u32).bytes().0 as usize;
+    let start = Blocks::from(session.first).bytes().0 as usize;
+    let end = start + Blocks::from(session.size).bytes().0 as usize;
     flush_marked(&mut flash[start..end], memory, marks)
 }
 
@@ -123,7 +123,7 @@ fn step_part(session: Session, marks: [u8; 64], flash: &mut [u8], memory: &[u8],
     ensures { (result ≡ ltb done (length (flush_actions marks)))
         × (flash.new ≡ perform_in session memory.now (take 1 (drop done (flush_actions marks))) flash.old) }
 {
-    let start = Blocks(session.first as u32).bytes().0 as usize;
-    let end = start + Blocks(session.size as u32).bytes().0 as usize;
+    let start = Blocks::from(session.first).bytes().0 as usize;
+    let end = start + Blocks::from(session.size).bytes().0 as usize;
     step_marked(&mut flash[start..end], memory, marks, done)
 }

@@ -1,6 +1,7 @@
 // Each access of the host, and the controller's answer, over bytes that the caller lends.
 //
-// A slice that has not 136 bytes is no port: it stays as it is.
+// A slice that has not 136 bytes is no port: it stays as it is. These stay beside `Port`: C's bytes are lent here, and the clauses
+// say what a slice of another length gets (docs/STATEMENTS.md).
 ghost use Rattle.std.specs.Prelude.{◌≡◌, false, length};
 ghost use Rattle.kcs.specs.Accesses.{status_read, byte_read, data_read, command_written, data_written, length_told, answers, answered};
 ghost use Rattle.kcs.specs.Bytes.{port_of, bytes_of};

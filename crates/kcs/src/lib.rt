@@ -21,6 +21,7 @@ pub use in_place::{
 };
 
 // A port, as C keeps it: eight controls, then 64 bytes of request and 64 of response. `rows` has their places.
+// The buffers and their lengths are an array, and no struct: C lends the bytes, and no buffer of them is copied.
 #[derive(Clone, Copy)]
 pub struct Port {
     pub bytes: [u8; 136],

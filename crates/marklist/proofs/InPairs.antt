@@ -2,15 +2,14 @@
 use mathlib.Core.Path.{◌≡◌, refl, sym, ap, ◌∙◌}
 use mathlib.Core.Bool.{Bool, true, false, cond, not, ◌||◌, true≢false}
 use mathlib.Core.List.{List, [], ◌∷◌}
-use Prim.Native.Nat.{ℕ, suc, ◌+◌, ◌*◌, ◌/◌, ◌%◌, ◌≤◌, ◌<◌}
+use Prim.Native.Nat.{ℕ, suc, ◌+◌, ◌/◌, ◌%◌, ◌≤◌, ◌<◌}
 use native.Mathlib.Nat.{le_trans}
 use native.Mathlib.Omega.{arith}
 use borrow.Author.Tests.{ltb-false, leb-true, le-leb, eqb-false, not-false}
 use lib.Dec.{leb, ltb, eqb}
-use lib.ListN.{length, get_or, drop, length-drop}
-use lib.Seq.{drop-cons}
+use lib.ListN.{length, get_or}
 use Rattle.units.proofs.Cases.{passed_by}
-use Rattle.std.specs.Prelude.{Err}
+use Rattle.std.specs.Prelude.{Err, ◌++◌}
 use Rattle.marklist.specs.declared.ListError.TheVariants.{Outside}
 use Rattle.marklist.specs.MarkList.{Pair, ListAnswer, Marked, pairs_of, malformed, first_outside}
 
@@ -26,56 +25,41 @@ formed_few numbers e =
     neither true b e = (e, absurd (true≢false e))
     neither false b e = (refl, e)
 
--- the list from a place on: the pair there, and the rest
-pub pair_at : (list : List ℕ) (place : ℕ) → 2 * place + 1 < length list
-    → pairs_of (drop (2 * place) list)
-    ≡ record { block = get_or list (2 * place) 0; count = get_or list (2 * place + 1) 0 } ∷ pairs_of (drop (2 * (place + 1)) list)
-pair_at list place h =
-    ap pairs_of (drop-cons list (2 * place) 0 (omega arith)
-    ∙ ap (λ (n : ℕ). get_or list (2 * place) 0 ∷ drop n list) one
-    ∙ ap (λ (t : List ℕ). get_or list (2 * place) 0 ∷ t) (drop-cons list (2 * place + 1) 0 h))
-    ∙ ap (λ (n : ℕ). record { block = get_or list (2 * place) 0; count = get_or list (2 * place + 1) 0 } ∷ pairs_of (drop n list)) two
-  where
-    one : suc (2 * place) ≡ 2 * place + 1
-    one = omega arith
+-- a chunk of two numbers and the rest: the chunk's pair, and the rest
+pub chunk_at : (chunk rest : List ℕ) → length chunk ≡ 2
+    → pairs_of (chunk ++ rest) ≡ record { block = get_or chunk 0 0; count = get_or chunk 1 0 } ∷ pairs_of rest
+chunk_at [] rest h = absurd (omega arith)
+chunk_at (a ∷ []) rest h = absurd (omega arith)
+chunk_at (a ∷ b ∷ []) rest h = refl
+chunk_at (a ∷ b ∷ d ∷ more) rest h = absurd (omega arith)
 
-    two : suc (2 * place + 1) ≡ 2 * (place + 1)
-    two = omega arith
-
--- the answer for the pairs from a place on, by the first of them
-answer_at : (size place : ℕ) (list : List ℕ) → 2 * place + 1 < length list → first_outside size place (pairs_of (drop (2 * place) list))
-    ≡ cond (not (leb (get_or list (2 * place) 0 + get_or list (2 * place + 1) 0) size)) (Err (Outside place))
-    (first_outside size (place + 1) (pairs_of (drop (2 * (place + 1)) list)))
-answer_at size place list h =
-    ap (first_outside size place) (pair_at list place h)
-    ∙ ap (λ (n : ℕ). cond (not (leb (get_or list (2 * place) 0 + get_or list (2 * place + 1) 0) size)) (Err (Outside place))
-    (first_outside size n (pairs_of (drop (2 * (place + 1)) list)))) one
+-- the answer for a chunk and the rest, by the chunk's pair
+answer_chunk : (size place : ℕ) (chunk rest : List ℕ) → length chunk ≡ 2 → first_outside size place (pairs_of (chunk ++ rest))
+    ≡ cond (not (leb (get_or chunk 0 0 + get_or chunk 1 0) size)) (Err (Outside place)) (first_outside size (place + 1) (pairs_of rest))
+answer_chunk size place chunk rest h =
+    ap (first_outside size place) (chunk_at chunk rest h)
+    ∙ ap (λ (n : ℕ). cond (not (leb (get_or chunk 0 0 + get_or chunk 1 0) size)) (Err (Outside place)) (first_outside size n (pairs_of rest))) one
   where
     one : suc place ≡ place + 1
     one = omega arith
 
-pub answer_outside : (size place : ℕ) (list : List ℕ) → 2 * place + 1 < length list
-    → leb (get_or list (2 * place) 0 + get_or list (2 * place + 1) 0) size ≡ false
-    → Err (Outside place) ≡ first_outside size place (pairs_of (drop (2 * place) list))
-answer_outside size place list h e =
-    sym (answer_at size place list h
-    ∙ ap (λ (inside : Bool). cond (not inside) (Err (Outside place)) (first_outside size (place + 1) (pairs_of (drop (2 * (place + 1)) list)))) e)
+pub chunk_outside : (size place : ℕ) (chunk rest : List ℕ) → length chunk ≡ 2 → leb (get_or chunk 0 0 + get_or chunk 1 0) size ≡ false
+    → Err (Outside place) ≡ first_outside size place (pairs_of (chunk ++ rest))
+chunk_outside size place chunk rest h e =
+    sym (answer_chunk size place chunk rest h
+    ∙ ap (λ (inside : Bool). cond (not inside) (Err (Outside place)) (first_outside size (place + 1) (pairs_of rest))) e)
 
-pub answer_inside : (size place : ℕ) (list : List ℕ) → 2 * place + 1 < length list
-    → leb (get_or list (2 * place) 0 + get_or list (2 * place + 1) 0) size ≡ true
-    → first_outside size (place + 1) (pairs_of (drop (2 * (place + 1)) list)) ≡ first_outside size place (pairs_of (drop (2 * place) list))
-answer_inside size place list h e =
-    sym (answer_at size place list h
-    ∙ ap (λ (inside : Bool). cond (not inside) (Err (Outside place)) (first_outside size (place + 1) (pairs_of (drop (2 * (place + 1)) list)))) e)
+pub chunk_inside : (size place : ℕ) (chunk rest : List ℕ) → length chunk ≡ 2 → leb (get_or chunk 0 0 + get_or chunk 1 0) size ≡ true
+    → first_outside size (place + 1) (pairs_of rest) ≡ first_outside size place (pairs_of (chunk ++ rest))
+chunk_inside size place chunk rest h e =
+    sym (answer_chunk size place chunk rest h
+    ∙ ap (λ (inside : Bool). cond (not inside) (Err (Outside place)) (first_outside size (place + 1) (pairs_of rest))) e)
 
 -- no pair is left
-no_pair : (list : List ℕ) → length list < 2 → pairs_of list ≡ []
+pub no_pair : (list : List ℕ) → length list < 2 → pairs_of list ≡ []
 no_pair [] h = refl
 no_pair (a ∷ []) h = refl
 no_pair (a ∷ b ∷ list) h = absurd (omega arith)
-
-pub none_left : (list : List ℕ) (at : ℕ) → length list < at + 2 → pairs_of (drop at list) ≡ []
-none_left list at h = no_pair (drop at list) (rw length-drop (omega arith))
 
 -- where no pair lies outside, the first lies inside, and none of the rest outside
 front_inside : (inside : Bool) (place : ℕ) (rest : ListAnswer) → cond (not inside) (Err (Outside place)) rest ≡ Marked → (inside ≡ true) × (rest ≡ Marked)
@@ -92,12 +76,21 @@ inside_front size place pair pairs e =
     let f = front_inside (leb (pair.block + pair.count) size) place (first_outside size (suc place) pairs) e in
     (leb-true (pair.block + pair.count) size f.0, f.1)
 
--- the pairs from a place on, none of them outside: nor are those from the next on
-pub inside_at : (size place : ℕ) (list : List ℕ) → 2 * place + 1 < length list → first_outside size place (pairs_of (drop (2 * place) list)) ≡ Marked
-    → (get_or list (2 * place) 0 + get_or list (2 * place + 1) 0 ≤ size) × (first_outside size (place + 1) (pairs_of (drop (2 * (place + 1)) list)) ≡ Marked)
-inside_at size place list h e =
-    let f = front_inside (leb (get_or list (2 * place) 0 + get_or list (2 * place + 1) 0) size) place _ (sym (answer_at size place list h) ∙ e) in
-    (leb-true (get_or list (2 * place) 0 + get_or list (2 * place + 1) 0) size f.0, f.1)
+-- where no pair lies outside, none does, whatever the place of the first is
+inside_anywhere : (size place other : ℕ) (pairs : List Pair) → first_outside size place pairs ≡ Marked → first_outside size other pairs ≡ Marked
+inside_anywhere size place other [] h = refl
+inside_anywhere size place other (pair ∷ pairs) h =
+    let f = inside_front size place pair pairs h in
+    ap (λ (b : Bool). cond (not b) (Err (Outside other)) (first_outside size (suc other) pairs)) (le-leb (pair.block + pair.count) size f.0)
+    ∙ inside_anywhere size (suc place) (suc other) pairs f.1
+
+-- a chunk of two numbers and the rest, no pair of them outside: nor are those of the rest
+pub inside_chunk : (size : ℕ) (chunk rest : List ℕ) → length chunk ≡ 2 → first_outside size 0 (pairs_of (chunk ++ rest)) ≡ Marked
+    → (get_or chunk 0 0 + get_or chunk 1 0 ≤ size) × (first_outside size 0 (pairs_of rest) ≡ Marked)
+inside_chunk size chunk rest two h =
+    let f = inside_front size 0 (record { block = get_or chunk 0 0; count = get_or chunk 1 0 }) (pairs_of rest)
+    (sym (ap (first_outside size 0) (chunk_at chunk rest two)) ∙ h) in
+    (f.0, inside_anywhere size 1 0 (pairs_of rest) f.1)
 
 -- what lies in a window lies in a larger one
 pub inside_larger : (size most place : ℕ) (pairs : List Pair) → size ≤ most → first_outside size place pairs ≡ Marked → first_outside most place pairs ≡ Marked

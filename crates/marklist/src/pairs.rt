@@ -12,9 +12,8 @@ pub(crate) fn first_outside(list: &[u16], size: u16) -> Result<(), ListError>
     requires { length list.now ≤ 128 }
     ensures { result ≡ first_outside size 0 (pairs_of list.now) }
 {
-    for place in 0..list.len() / 2 {
-        let at = 2 * place;
-        if !is_inside(list[at], list[at + 1], size) {
+    for (place, pair) in list.chunks_exact(2).enumerate() {
+        if !is_inside(pair[0], pair[1], size) {
             return Err(ListError::Outside(place as u8));
         }
     }
@@ -25,7 +24,7 @@ pub(crate) fn first_outside(list: &[u16], size: u16) -> Result<(), ListError>
 fn is_inside(block: u16, count: u16, size: u16) -> bool
     ensures { result ≡ leb (block + count) size }
 {
-    (block as u32) + (count as u32) <= (size as u32)
+    u32::from(block) + u32::from(count) <= u32::from(size)
 }
 
 // The marks with those of all pairs dirty: first how far the pairs reach, then block after block, so that a pair of
@@ -45,10 +44,9 @@ fn farthest_ends(list: &[u16]) -> [u8; 65]
     ensures { result ≡ ends_from (pairs_of list.now) no_ends }
 {
     let mut ends = [0u8; 65];
-    for place in 0..list.len() / 2 {
-        let at = 2 * place;
-        let block = list[at] as usize;
-        let end = list[at] + list[at + 1];
+    for pair in list.chunks_exact(2) {
+        let block = pair[0] as usize;
+        let end = pair[0] + pair[1];
         ends[block] = ends[block].max(end as u8);
     }
     ends
@@ -62,7 +60,7 @@ fn mark_reached(marks: [u8; 64], ends: [u8; 65]) -> [u8; 64]
     let mut reach = 0u8;
     for at in 0..64 {
         reach = reach.max(ends[at]);
-        next[at] = dirty_if(at < reach as usize, marks[at]);
+        next[at] = dirty_if(at < usize::from(reach), marks[at]);
     }
     next
 }

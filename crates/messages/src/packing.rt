@@ -57,6 +57,7 @@ pub fn pack(message: &[u8], version: u8, registers: [u8; 16]) -> Response
     ensures { result ≡ laid (response_of version message.now registers) }
 {
     let status = registers[13];
+    // a number, not u8::from(Code::Success): Code is of refusals, of which this crate has nothing
     if status != 1 {
         return complete(message, 0x80u8.wrapping_add(status));
     }
@@ -67,7 +68,7 @@ pub fn pack(message: &[u8], version: u8, registers: [u8; 16]) -> Response
     bytes[5..].copy_from_slice(&values_of(code, version, registers));
     Response {
         bytes,
-        length: 5 + response_bytes(code, version) as u32,
+        length: 5 + u32::from(response_bytes(code, version)),
     }
 }
 
@@ -81,13 +82,11 @@ fn values_of(code: u8, version: u8, registers: [u8; 16]) -> [u8; 11]
         values[..4].copy_from_slice(&[registers[2], registers[7], registers[8], registers[9]]);
         return values;
     }
-    let count = response_bytes(code, version) as usize;
+    let count = usize::from(response_bytes(code, version));
     for place in 0..11 {
-        values[place] = if place < count {
-            registers[2 + place]
-        } else {
-            0
-        };
+        if place < count {
+            values[place] = registers[2 + place];
+        }
     }
     values
 }

@@ -3,7 +3,7 @@
 // Every row of bytes and every offset in it gets an answer.
 #![tactic(auto)]
 
-ghost use Rattle.std.specs.Prelude.{◌≡◌, ◌≤◌, replicate};
+ghost use Rattle.std.specs.Prelude.{◌≡◌, ◌≤◌, Some, replicate};
 ghost use Rattle.records.specs.Records.{plain, values_at, command_at, fill_at, record_at};
 
 use leb128::read_at;
@@ -37,18 +37,18 @@ pub fn read_record(bytes: &[u8], at: usize) -> Option<Item>
     match kind.value {
         0 => command_at(bytes, next),
         1 => fill_at(bytes, next),
-        2 => plain_record(Record::Suspend, next),
-        3 => plain_record(Record::Resume, next),
-        4 => plain_record(Record::ResumeChanged, next),
+        2 => Some(plain_record(Record::Suspend, next)),
+        3 => Some(plain_record(Record::Resume, next)),
+        4 => Some(plain_record(Record::ResumeChanged, next)),
         _ => None,
     }
 }
 
 // A record without numbers.
-fn plain_record(body: Record, next: usize) -> Option<Item>
-    ensures { result ≡ plain body next }
+fn plain_record(body: Record, next: usize) -> Item
+    ensures { Some result ≡ plain body next }
 {
-    Some(Item { body, next })
+    Item { body, next }
 }
 
 // The rest of a command: the count of its values, and they.

@@ -19,13 +19,13 @@ pub fn blocks_named(session: Session, registers: [u8; 16]) -> Option<BlockRange>
     ensures { result ≡ range_of (blocks_named session registers) }
 {
     let words = read_words(registers);
-    let named = Blocks(words.first as u32);
-    let size = Blocks(session.size as u32);
+    let named = Blocks::from(words.first);
+    let size = Blocks::from(session.size);
     if session.version < 2 {
-        let count = Bytes(read_length(registers) as u64).blocks();
-        within(Blocks(session.first as u32), size, named, count)
+        let count = Bytes(u64::from(read_length(registers))).blocks();
+        within(Blocks::from(session.first), size, named, count)
     } else {
-        within(Blocks(0), size, named, Blocks(words.second as u32))
+        within(Blocks(0), size, named, Blocks::from(words.second))
     }
 }
 

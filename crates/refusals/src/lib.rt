@@ -9,6 +9,7 @@ mod checks;
 mod codes;
 mod flags;
 
+// A session and registers stay two parameters: these functions answer of any session, and mailbox's `Call` is of a sound one.
 pub use blocks::{blocks_named, flush_marks, flush_outside};
 pub use checks::check;
 pub use codes::{Code, code_for};

@@ -54,6 +54,7 @@ pub struct Session {
     pub events: u8,
     pub suspended: bool,
     pub window: Window,
+    // `Closed` has these two as well: C's record may hold any in them, and `window_sound` answers of each.
     pub first: u16,
     pub size: u16,
     pub counts: Counts,

@@ -4,7 +4,7 @@ ghost use Rattle.session.specs.Marks.{erases, programs, of_kind, same_counts, no
 
 use crate::Counts;
 
-// Nothing is asked. Marks are bytes and no enum: C's record may hold any byte, and each is answered.
+// Nothing is asked. Marks are bytes and no enum: C's record may hold any byte, and `marks_sound` answers of each.
 pub(crate) const CLEAN: u8 = 0;
 
 // The block is to become the window's bytes.
@@ -40,7 +40,7 @@ pub fn of_kind(mark: u8, kind: u8) -> u8
     u8::from(mark == kind)
 }
 
-// Whether the number of each kind is the same in both.
+// Whether the number of each kind is the same in both. It stays beside `==`: docs/STATEMENTS.md names it.
 pub fn same_counts(counts: Counts, others: Counts) -> bool
     ensures { result ≡ same_counts counts others }
 {

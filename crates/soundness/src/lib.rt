@@ -1,7 +1,7 @@
 // When the lent sizes, B and a session are sound, and how much of a session is pending; marks with their numbers.
 //
 // Every length and every session record gets an answer; what is not sound is SYSTEM_ERROR to a command or a list of marks and, B
-// aside, 4 to a step.
+// aside, `StepError::Unsound` to a step.
 #![tactic(auto)]
 
 mod marks;
@@ -14,7 +14,7 @@ ghost use Rattle.soundness.specs.Soundness.{sound, sound_at, size_sound, access_
 use marks::look_at;
 pub use marks::with_marks;
 pub use pending_work::{PendingWork, pending};
-use session::{Board, Session, Window, is_control_lost, same_counts};
+use session::{Board, Session, Window, is_control_lost};
 use units::Bytes;
 
 // The last version that there is.
@@ -40,8 +40,8 @@ pub struct Lengths {
 pub fn is_sound(session: Session, lent: Lengths) -> bool
     ensures { result ≡ sound lent.flash lent.worn lent.memory session }
 {
-    let flash_blocks = Bytes(lent.flash as u64).blocks().0;
-    let memory_blocks = Bytes(lent.memory as u64).blocks().0;
+    let flash_blocks = Bytes::from(lent.flash).blocks().0;
+    let memory_blocks = Bytes::from(lent.memory).blocks().0;
     size_is_sound(MOST_FLASH, lent.flash)
         && size_is_sound(MOST_MEMORY, lent.memory)
         && lent.worn == flash_blocks as usize
@@ -53,7 +53,7 @@ pub fn is_sound(session: Session, lent: Lengths) -> bool
 pub fn is_sound_at(session: Session, board: Board, lent: Lengths) -> bool
     ensures { result ≡ sound_at (set_up board) lent.flash lent.worn lent.memory session }
 {
-    let memory_blocks = Bytes(lent.memory as u64).blocks().0;
+    let memory_blocks = Bytes::from(lent.memory).blocks().0;
     is_sound(session, lent) && u64::from(board.lpc) + u64::from(memory_blocks) <= LPC_BLOCKS
 }
 
@@ -63,10 +63,12 @@ fn size_is_sound(most: u32, length: usize) -> bool
     requires { most < 65536 }
     ensures { result ≡ size_sound most length }
 {
-    let blocks = Bytes(length as u64).blocks();
-    0 < blocks.0 && blocks.0 <= most && blocks.bytes().0 == length as u64
+    let bytes = Bytes::from(length);
+    let blocks = bytes.blocks();
+    0 < blocks.0 && blocks.0 <= most && blocks.bytes() == bytes
 }
 
+// Version, event byte, window and marks each, on a flash and a window memory of so many blocks.
 #[tactic(auto, unfolding(crate::specs::Soundness::session_sound))]
 fn session_is_sound(session: Session, flash: u32, memory: u32) -> bool
     ensures { result ≡ session_sound flash memory session }
@@ -84,6 +86,7 @@ fn access_is_sound(suspended: bool, events: u8) -> bool
     suspended == is_control_lost(events)
 }
 
+// No window is at 0 and of no blocks; another lies in the memory and the flash.
 fn window_is_sound(window: Window, first: u16, size: u16, flash: u32, memory: u32) -> bool
     ensures { result ≡ window_sound window first size flash memory }
 {
@@ -93,6 +96,7 @@ fn window_is_sound(window: Window, first: u16, size: u16, flash: u32, memory: u3
     }
 }
 
+// At least one block, no more than the window memory has, and all of them within the flash.
 fn active_is_sound(first: u16, size: u16, flash: u32, memory: u32) -> bool
     ensures { result ≡ active_sound first size flash memory }
 {
@@ -104,7 +108,7 @@ fn marks_and_counts_are_sound(session: Session) -> bool
     ensures { result ≡ (marks_sound (markable session.window session.size) session.marks && counts_sound session) }
 {
     let look = look_at(session.marks, markable_blocks(session.window, session.size));
-    look.within && same_counts(session.counts, look.counts)
+    look.within && session.counts == look.counts
 }
 
 // How many blocks of the window may be marked.

@@ -6,7 +6,8 @@ ghost use Rattle.transcript.specs.Puts.{Puts};
 use crate::text::{count_written, register_line};
 use units::{BLOCK, Blocks};
 
-// What is printed: a text at the front of a buffer, as far as there is room, and its length.
+// What is printed: a text at the front of a buffer, as far as there is room, and its length. The bound on the length falls with
+// each put, so it is no invariant. No `write!` into it: each byte is in `run`'s contract.
 #[derive(Drop)]
 pub(crate) struct Printed<'a> {
     pub(crate) text: &'a mut [u8],

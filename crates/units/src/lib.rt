@@ -30,6 +30,24 @@ impl Blocks {
     }
 }
 
+// A length of a lent slice is a number of bytes.
+impl From<usize> for Bytes {
+    ghost from_gives = { λ length bytes. bytes.0 ≡ length };
+
+    fn from(length: usize) -> Bytes {
+        Bytes(length as u64)
+    }
+}
+
+// The protocol's numbers of blocks have 16 bits.
+impl From<u16> for Blocks {
+    ghost from_gives = { λ count blocks. blocks.0 ≡ count };
+
+    fn from(count: u16) -> Blocks {
+        Blocks(u32::from(count))
+    }
+}
+
 impl Bytes {
     // The blocks that hold so many bytes: rounded up.
     pub fn blocks(self) -> Blocks

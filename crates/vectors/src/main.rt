@@ -1,4 +1,4 @@
-// Worked cases of the leaves, run and printed: units, numbers in seven-bit groups, chip actions, a KCS port by value.
+// Worked cases of the leaves, run and printed: units, numbers in seven-bit groups, chip actions, and a KCS port by its methods.
 //
 // The file stdout beside src/ has what document 01 makes of each case; it is written from the
 // document, with the reason for each line in docs/VECTORS.md.
@@ -142,7 +142,7 @@ fn kcs_exchange(rt: &impl Print) -> io::Result<()> {
     port_line(rt, 0, &port)?;
     data_line(rt, &mut port, 0x01)?;
     let taken = port.respond(b"\x1c\x01");
-    port_line(rt, taken as u8, &port)?;
+    port_line(rt, u8::from(taken), &port)?;
     let first = port.read_data();
     port_line(rt, first, &port)?;
     data_line(rt, &mut port, 0x68)?;

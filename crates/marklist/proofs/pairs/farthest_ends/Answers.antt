@@ -1,30 +1,34 @@
-use Rattle.std.proofs.Common.{ℕ, List, ◌+◌, ◌*◌, ◌<◌, length, get_or, set, drop, refl, sym, ap, ◌∙◌, arith}
+use Rattle.std.proofs.Common.{rules, ℕ, List, get_or, set, sym, ap, ◌∙◌, arith}
 use lib.ListN.{length-set}
-use Rattle.marklist.specs.MarkList.{Pair, pairs_of}
+use Rattle.marklist.specs.MarkList.{Pair, pairs_of, first_outside}
 use Rattle.marklist.specs.Reach.{ends_from, no_ends}
-use Rattle.marklist.proofs.InPairs.{pair_at, none_left, inside_at}
+use Rattle.marklist.proofs.InPairs.{chunk_at, inside_chunk, no_pair}
 use Rattle.marklist.proofs.pairs.farthest_ends.Goals as goal
 
-pub loop-place-init : goal.loop-place-init
+pub loop-pair-init : goal.loop-pair-init
 unfolding no_ends
-loop-place-init c = (refl, refl, c.requires)
+loop-pair-init c = search rules
 
-pub loop-place-preserved : goal.loop-place-preserved
-loop-place-preserved c =
-    let list = c.args.list.now in
-    let l = c.loop-place in
-    let long : 2 * l.place + 1 < length list = omega arith in
-    let within = inside_at 64 l.place list long l.invariant.2 in
-    let whole = l.invariant.0 in
-    let rest = pairs_of (drop (2 * (l.place + 1)) list) in (
-      simp length-set whole,
-      ap (λ (n : ℕ). ends_from rest (set l.ends (get_or list (2 * l.place) 0) n)) c.max.ensures
-          ∙ sym (ap (λ (pairs : List Pair). ends_from pairs l.ends) (pair_at list l.place long))
+pub loop-pair-preserved : goal.loop-pair-preserved
+loop-pair-preserved c =
+    let l = c.loop-pair in
+    let s = c.in-Some.ensures.steps in
+    let pair = c.in-Some.pair.now in
+    let rest = c.next.new.self.rest.now in
+    let two = s.1.1 ∙ l.invariant.3 in
+    let within = inside_chunk 64 pair rest two (ap (λ (t : List ℕ). first_outside 64 0 (pairs_of t)) (sym s.1.0) ∙ l.invariant.2) in (
+      simp length-set l.invariant.0,
+      ap (λ (n : ℕ). ends_from (pairs_of rest) (set l.ends (get_or pair 0 0) n)) c.max.ensures
+          ∙ sym (ap (λ (pairs : List Pair). ends_from pairs l.ends) (chunk_at pair rest two))
+          ∙ ap (λ (t : List ℕ). ends_from (pairs_of t) l.ends) (sym s.1.0)
           ∙ l.invariant.1,
       within.1,
+      s.0 ∙ l.invariant.3,
     )
 
 pub returns : goal.returns
 returns c =
-    let l = c.loop-place in
-    sym (ap (λ (pairs : List Pair). ends_from pairs l.ends) (none_left c.args.list.now (2 * l.place) (omega arith))) ∙ l.invariant.1
+    let l = c.loop-pair in
+    let short = c.in-None.ensures.steps.1.0 in
+    let two = l.invariant.3 in
+    sym (ap (λ (pairs : List Pair). ends_from pairs l.ends) (no_pair l.pair-iterator.rest.now (omega arith))) ∙ l.invariant.1
