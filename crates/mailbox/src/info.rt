@@ -18,7 +18,7 @@ pub(crate) fn get_info(call: Call, memory: &[u8]) -> Result<Answer, Reason>
     ensures { (flash worn : List ℕ) → ran result call flash worn memory.now ≡ obeyed_by get_info call flash worn memory.now }
 {
     call.check(0, Needs::Nothing, call.registers[2] == 0)?;
-    let blocks = Bytes(memory.len() as u64).blocks();
+    let blocks = Bytes::from(memory.len()).blocks();
     Ok(agree(call.numbered(), blocks))
 }
 
@@ -28,7 +28,7 @@ pub(crate) fn get_flash_info(call: Call, flash: &[u8]) -> Result<Answer, Reason>
     ensures { (worn memory : List ℕ) → ran result call flash.now worn memory ≡ obeyed_by get_flash_info call flash.now worn memory }
 {
     call.check(1, Needs::Access, false)?;
-    let blocks = Bytes(flash.len() as u64).blocks();
+    let blocks = Bytes::from(flash.len()).blocks();
     Ok(tell_flash(call.numbered(), blocks))
 }
 

@@ -54,7 +54,7 @@ pub(crate) fn create(
     ensures { ran result call flash.new worn.now memory.new ≡ obeyed_by (create (command_of call.registers) window) call flash.old worn.now memory.old }
 {
     call.check(1, Needs::Access, false)?;
-    let blocks = Bytes(flash.len() as u64).blocks().0;
+    let blocks = Bytes::from(flash.len()).blocks().0;
     let outside = blocks <= u32::from(read_words(call.registers).first);
     if outside {
         return Ok(close_first(call.numbered(), flash, worn, memory));
@@ -112,8 +112,8 @@ fn window_size(flash: usize, memory: usize, first: u16, hint: u16) -> u16
     requires { (first < round_up flash) × (round_up flash ≤ 65535) × (round_up memory ≤ 64) }
     ensures { result ≡ size_for (round_up flash) (round_up memory) first hint }
 {
-    let flash_blocks = Bytes(flash as u64).blocks().0;
-    let memory_blocks = Bytes(memory as u64).blocks().0;
+    let flash_blocks = Bytes::from(flash).blocks().0;
+    let memory_blocks = Bytes::from(memory).blocks().0;
     let most = memory_blocks.min(flash_blocks - u32::from(first)) as u16;
     if hint == 0 { most } else { most.min(hint) }
 }
@@ -148,8 +148,8 @@ fn copy_blocks(flash: &[u8], memory: &mut [u8], first: u16, size: u16)
     requires in_memory { to_bytes size ≤ length memory.old }
     ensures { memory.new ≡ replace 0 (range (to_bytes first) (to_bytes size) flash.now) memory.old }
 {
-    let start = Blocks(u32::from(first)).bytes().0 as usize;
-    let bytes = Blocks(u32::from(size)).bytes().0 as usize;
+    let start = Blocks::from(first).bytes().0 as usize;
+    let bytes = Blocks::from(size).bytes().0 as usize;
     let end = start + bytes;
     copy(&mut memory[0..bytes], &flash[start..end]);
 }

@@ -1,10 +1,6 @@
 -- `mailbox::command`: SYSTEM_ERROR, or what the command of the registers' code answers.
-use Rattle.std.proofs.Common.{◌≡◌, true, Ok, Err, sym, ap, ◌∙◌}
-use Rattle.session.specs.Machine.{Machine, set_up, lent}
-use Rattle.soundness.specs.Soundness.{sound_in}
-use Rattle.mailbox.specs.Commands.{answered, leaving, outcome}
-use Rattle.mailbox.specs.Mediator.{mediate}
-use Rattle.mailbox.specs.Calls.{ran}
+use Rattle.std.proofs.Common.{sym, ◌∙◌}
+use Rattle.session.specs.Machine.{set_up, lent}
 use Rattle.mailbox.proofs.Mediating.{unsound_as, call_fits, mediated_by}
 use Rattle.mailbox.proofs.command.Goals as goal
 

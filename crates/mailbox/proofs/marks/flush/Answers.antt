@@ -1,5 +1,5 @@
 -- `mailbox::marks::flush`: refused, or flushed with the marks that it makes itself.
-use Rattle.std.proofs.Common.{◌≡◌, refl, ap, not, ◌&&◌, cond, leb, Option, None, Some, Bool, true, false, List, ℕ, replicate, sym, ◌∙◌, rules}
+use Rattle.std.proofs.Common.{◌≡◌, refl, ap, cond, leb, Option, None, Some, Bool, true, false, List, ℕ, replicate, sym, ◌∙◌, rules}
 use Rattle.buffers.specs.Ranges.{replace}
 use Rattle.session.specs.declared.Session.{Session}
 use Rattle.session.specs.Machine.{lent}

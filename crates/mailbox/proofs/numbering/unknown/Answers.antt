@@ -1,5 +1,5 @@
 -- `mailbox::numbering::unknown`: refused for its number, or as unknown.
-use Rattle.std.proofs.Common.{◌≡◌, refl, rules}
+use Rattle.std.proofs.Common.{rules}
 use Rattle.mailbox.proofs.Ran.{unknown_checked, unknown_passed}
 use Rattle.mailbox.proofs.numbering.unknown.Goals as goal
 

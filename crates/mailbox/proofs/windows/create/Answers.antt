@@ -29,7 +29,7 @@ returns-then-outside c =
     let a = c.args in
     let e : c.check.result ≡ Accepted = search rules in
     let blocks : c.blocks-blocks.result.0 ≡ round_up (length a.flash.now) = search (rules, block_count) in
-    let first : c.from.result ≡ number 2 0 a.call.registers = search rules in
+    let first : c.from-2.result ≡ number 2 0 a.call.registers = search rules in
     let outside = le-leb (round_up (length a.flash.now)) (number 2 0 a.call.registers) (omega (arith, c.if-outside.true, blocks, first)) in
     let b = broken_last (create (command_of a.call.registers) a.window) a.call a.flash.now a.worn.now a.memory.now refl c.check.ensures e outside in
     c.close_first.ensures
@@ -42,7 +42,7 @@ returns c =
     let a = c.args in
     let e : c.check.result ≡ Accepted = search rules in
     let blocks : c.blocks-blocks.result.0 ≡ round_up (length a.flash.now) = search (rules, block_count) in
-    let first : c.from.result ≡ number 2 0 a.call.registers = search rules in
+    let first : c.from-2.result ≡ number 2 0 a.call.registers = search rules in
     let inside = lt-leb (round_up (length a.flash.now)) (number 2 0 a.call.registers) (omega (arith, c.if-outside.false, blocks, first)) in
     let s = served_last (create (command_of a.call.registers) a.window) a.call a.flash.now a.worn.now a.memory.now refl c.check.ensures e inside in
     c.open_at.ensures
