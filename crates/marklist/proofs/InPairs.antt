@@ -1,29 +1,17 @@
 -- Laws of a list read in pairs.
 use mathlib.Core.Path.{◌≡◌, refl, sym, ap, ◌∙◌}
-use mathlib.Core.Bool.{Bool, true, false, cond, not, ◌||◌, true≢false}
+use mathlib.Core.Bool.{Bool, true, false, cond, not}
 use mathlib.Core.List.{List, [], ◌∷◌}
-use Prim.Native.Nat.{ℕ, suc, ◌+◌, ◌/◌, ◌%◌, ◌≤◌, ◌<◌}
+use Prim.Native.Nat.{ℕ, suc, ◌+◌, ◌≤◌, ◌<◌}
 use native.Mathlib.Nat.{le_trans}
 use native.Mathlib.Omega.{arith}
-use borrow.Author.Tests.{ltb-false, leb-true, le-leb, eqb-false, not-false}
-use lib.Dec.{leb, ltb, eqb}
+use borrow.Author.Tests.{leb-true, le-leb, not-false}
+use lib.Dec.{leb}
 use lib.ListN.{length, get_or}
 use Rattle.units.proofs.Cases.{passed_by}
 use Rattle.std.specs.Prelude.{Err, ◌++◌}
 use Rattle.marklist.specs.declared.ListError.TheVariants.{Outside}
-use Rattle.marklist.specs.MarkList.{Pair, ListAnswer, Marked, pairs_of, malformed, first_outside}
-
--- a list that is not malformed is short
-pub formed_few : (numbers : ℕ) → malformed numbers ≡ false → numbers ≤ 128
-formed_few numbers e =
-    let p = neither (eqb (numbers % 2) 1) (ltb 64 (numbers / 2)) e in
-    let odd = eqb-false (numbers % 2) 1 p.0 in
-    let few = ltb-false 64 (numbers / 2) p.1 in
-    omega arith
-  where
-    neither : (a b : Bool) → (a || b) ≡ false → (a ≡ false) × (b ≡ false)
-    neither true b e = (e, absurd (true≢false e))
-    neither false b e = (refl, e)
+use Rattle.marklist.specs.MarkList.{Pair, ListAnswer, Marked, pairs_of, first_outside}
 
 -- a chunk of two numbers and the rest: the chunk's pair, and the rest
 pub chunk_at : (chunk rest : List ℕ) → length chunk ≡ 2

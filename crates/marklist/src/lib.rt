@@ -30,7 +30,8 @@ pub enum ListError {
     Outside(u8),
 }
 
-// Marks all pairs of the list dirty, or changes nothing. The list is of numbers, and not of pairs: C hands numbers over. The previous sequence number has no part in it.
+// Marks all pairs of the list dirty, or changes nothing. The previous sequence number has no part in it.
+// The list is of numbers, and not of pairs: C hands numbers over.
 #[tactic(auto, using(crate::proofs::Taken::within_marks), unfolding(crate::specs::MarkList::listed))]
 pub fn mark_list(
     session: Session,
