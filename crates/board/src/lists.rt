@@ -9,7 +9,6 @@ use crate::{ListReply, Record};
 use marklist::{ListError, mark_list};
 use refusals::Code;
 use session::{Board, Session};
-use soundness::Lengths;
 
 // Marks a list of pairs in a lent record; the lengths of the flash, its map and the window memory are in bytes.
 pub fn hiomap_mark_list(
@@ -24,12 +23,7 @@ pub fn hiomap_mark_list(
     ensures { record { held = held.new; answer = result }
         ≡ listed_record (board lpc timeout) flash worn memory list.now held.old }
 {
-    let lent = Lengths {
-        flash,
-        worn,
-        memory,
-    };
-    match mark_all(*held, list, Board { lpc, timeout }, lent) {
+    match mark_all(*held, list, Board { lpc, timeout }, flash, worn, memory) {
         Ok(marked) => {
             *held = marked;
             unnamed(Code::Success)
@@ -40,13 +34,20 @@ pub fn hiomap_mark_list(
 
 // Marks all pairs of the list dirty. A record with a number that stands for nothing is refused.
 #[tactic(auto, using(crate::proofs::Listed::list_irregular, crate::proofs::Listed::list_marked, crate::proofs::Listed::list_refused))]
-fn mark_all(held: Record, list: &[u16], board: Board, lent: Lengths) -> Result<Record, ListError>
-    ensures { marked_record held result ≡ listed_record (set_up board) lent.flash lent.worn lent.memory list.now held }
+fn mark_all(
+    held: Record,
+    list: &[u16],
+    board: Board,
+    flash: usize,
+    worn: usize,
+    memory: usize,
+) -> Result<Record, ListError>
+    ensures { marked_record held result ≡ listed_record (set_up board) flash worn memory list.now held }
 {
     if !is_regular(held) {
         return Err(ListError::Unsound);
     }
-    let session = mark_list(Session::from(held), list, board, lent)?;
+    let session = mark_list(Session::from(held), list, board, flash, worn, memory)?;
     Ok(record_of(session, held.previous))
 }
 

@@ -8,7 +8,7 @@ ghost use Rattle.flush.specs.Window.{window_actions, part_end, window_worn, perf
 use crate::marked::{flush_marked, step_marked};
 use crate::worn::{failing_block, first_marks};
 use session::{Session, none_marked};
-use soundness::{Lengths, is_sound};
+use soundness::is_sound;
 use units::Blocks;
 
 // Why a flush is not advanced.
@@ -46,12 +46,7 @@ pub fn advance(
 ) -> Result<bool, StepError>
     ensures { stepped result flash.new ≡ advanced (lent session flash.old worn.now memory.now) done }
 {
-    let lent = Lengths {
-        flash: flash.len(),
-        worn: worn.len(),
-        memory: memory.len(),
-    };
-    if !is_sound(session, lent) {
+    if !is_sound(session, flash.len(), worn.len(), memory.len()) {
         return Err(StepError::Unsound);
     }
     if session.suspended {
@@ -76,12 +71,7 @@ pub fn advance(
 pub fn flush_window(session: Session, flash: &mut [u8], worn: &[u8], memory: &[u8]) -> Flush
     ensures { flush_left session result flash.new ≡ flush_whole (lent session flash.old worn.now memory.now) }
 {
-    let lent = Lengths {
-        flash: flash.len(),
-        worn: worn.len(),
-        memory: memory.len(),
-    };
-    if !is_sound(session, lent) {
+    if !is_sound(session, flash.len(), worn.len(), memory.len()) {
         return NOTHING_DONE;
     }
     // two numbers instead of 64 turns, where nothing is marked: half a microsecond of a create

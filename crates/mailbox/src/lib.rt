@@ -10,8 +10,9 @@ mod marks;
 mod numbering;
 mod windows;
 
-ghost use Rattle.std.specs.Prelude.{◌≡◌, ◌≤◌, true, length};
+ghost use Rattle.std.specs.Prelude.{◌≡◌, ◌≤◌, true, cond, eqb, length};
 ghost use Rattle.units.specs.Units.{to_bytes};
+ghost use Rattle.session.specs.declared.Window.TheVariants.{Read, Write};
 ghost use Rattle.session.specs.Machine.{set_up, lent};
 ghost use Rattle.soundness.specs.Soundness.{size_sound};
 ghost use Rattle.mailbox.specs.Commands.{outcome};
@@ -25,7 +26,7 @@ use numbering::unknown;
 use refusals::{Code, Reason};
 use registers::{NO_ARGUMENTS, replied};
 use session::{Board, Session, Window};
-use soundness::{Lengths, is_sound_at};
+use soundness::is_sound_at;
 use windows::{close_window, create, reset};
 
 // What a command gives back: the session, the 16 registers and the number of chip actions.
@@ -48,13 +49,8 @@ pub fn command(
     ensures { outcome result flash.new worn.now memory.new
         ≡ mediate (set_up board) registers (lent session flash.old worn.now memory.old) }
 {
-    let lent = Lengths {
-        flash: flash.len(),
-        worn: worn.len(),
-        memory: memory.len(),
-    };
     // SYSTEM_ERROR keeps the previous number
-    if !is_sound_at(session, board, lent) {
+    if !is_sound_at(session, board, flash.len(), worn.len(), memory.len()) {
         return Answer {
             session,
             registers: replied(
@@ -79,7 +75,7 @@ pub fn command(
 
 // The published table of commands in its order. RESET, GET_INFO and ACK are unversioned; 11 and 12 are version 3's.
 // A match and no table of functions: each command is lent something else, and a table's rows would be boxed.
-#[tactic(auto, using(crate::proofs::Arms::read_row, crate::proofs::Arms::write_row, crate::proofs::Arms::erase_row, crate::proofs::Arms::past_row))]
+#[tactic(auto, using(crate::proofs::Arms::create_row, crate::proofs::Arms::erase_row, crate::proofs::Arms::past_row))]
 fn run(call: Call, flash: &mut [u8], worn: &[u8], memory: &mut [u8]) -> Result<Answer, Reason>
     requires sizes { (size_sound 65535 (length flash.old) ≡ true) × (size_sound 64 (length memory.old) ≡ true) }
     requires room { to_bytes call.session.size ≤ length memory.old }
@@ -90,13 +86,24 @@ fn run(call: Call, flash: &mut [u8], worn: &[u8], memory: &mut [u8]) -> Result<A
         1 => reset(call),
         2 => get_info(call, memory),
         3 => get_flash_info(call, flash),
-        4 => create(Window::Read, call, flash, worn, memory),
+        // one call, so that it is compiled in place (docs/PERFORMANCE.md)
+        4 | 6 => create(window_of(call.registers[0]), call, flash, worn, memory),
         5 => close_window(call, flash, worn, memory),
-        6 => create(Window::Write, call, flash, worn, memory),
         7 => mark_dirty(call),
         8 => flush(call, flash, worn, memory),
         9 => acknowledge(call),
         10 => erase(call, memory),
         11..=255 => unknown(call),
+    }
+}
+
+// The window that a create of code 4 or 6 opens.
+fn window_of(code: u8) -> Window
+    ensures { result ≡ cond (eqb code 4) Read Write }
+{
+    if code == 4 {
+        Window::Read
+    } else {
+        Window::Write
     }
 }

@@ -1,20 +1,12 @@
 -- What a list tells whose pairs are looked at: the first five checks have passed.
-use mathlib.Core.Path.{◌≡◌, refl, sym, ap, ◌∙◌}
-use mathlib.Core.Bool.{Bool, true, false, not, false≢true}
-use mathlib.Core.List.{List, [], ◌∷◌}
-use Prim.Native.Nat.{ℕ, suc, ◌≤◌}
-use native.Mathlib.Omega.{arith}
-use borrow.Author.Tests.{not-true, not-false}
-use lib.Dec.{eqb}
-use lib.ListN.{length}
-use Rattle.units.proofs.Cases.{chosen}
+use Rattle.std.proofs.Common.{◌≡◌, ℕ, suc, ◌≤◌, Bool, true, false, not, eqb, List, [], ◌∷◌, length, Err, refl, arith}
+use Rattle.std.proofs.lemmas.Bool.{not-true, not-false, cond_both}
 use Rattle.session.specs.declared.Session.{Session}
 use Rattle.session.specs.Machine.{Setup, Machine}
 use Rattle.session.specs.Record.{with_marks}
 use Rattle.soundness.specs.Soundness.{sound_at, sound_in}
 use Rattle.soundness.proofs.Facts.{measured}
 use Rattle.refusals.specs.Refusals.{is_write}
-use Rattle.std.specs.Prelude.{Err}
 use Rattle.marklist.specs.declared.ListError.TheVariants.{Unsound, OtherVersion, Suspended, Windowless, Malformed, Outside}
 use Rattle.marklist.specs.MarkList.{Pair, ListAnswer, Marked, list_code, malformed, is_inside, pairs_of, first_outside, answer_for, mark_pairs, session_for, listed, listed_in}
 use Rattle.marklist.proofs.InPairs.{inside_larger}
@@ -43,11 +35,11 @@ pub each_check : (P : ListAnswer → Type 0) (sound : Bool) (list : List ℕ) (s
     → (Taken sound list s → P (first_outside s.size 0 (pairs_of list))) → P (answer_for sound list s)
 unfolding answer_for
 each_check P sound list s unsound other suspended windowless odd pairs =
-    chosen P (not sound) (Err Unsound) _ (λ e. unsound (not-true sound e)) λ sounds.
-    chosen P (not (eqb s.version 2)) (Err OtherVersion) _ (λ e. other (not-true (eqb s.version 2) e)) λ two.
-    chosen P s.suspended (Err Suspended) _ suspended λ awake.
-    chosen P (not (is_write s.window)) (Err Windowless) _ (λ e. windowless awake (not-true (is_write s.window) e)) λ writes.
-    chosen P (malformed (length list)) (Err Malformed) _ odd λ formed.
+    cond_both (not sound) (Err Unsound) _ P (λ e. unsound (not-true sound e)) λ sounds.
+    cond_both (not (eqb s.version 2)) (Err OtherVersion) _ P (λ e. other (not-true (eqb s.version 2) e)) λ two.
+    cond_both s.suspended (Err Suspended) _ P suspended λ awake.
+    cond_both (not (is_write s.window)) (Err Windowless) _ P (λ e. windowless awake (not-true (is_write s.window) e)) λ writes.
+    cond_both (malformed (length list)) (Err Malformed) _ P odd λ formed.
     pairs
     (record {
       sounds = not-false sound sounds;
@@ -61,11 +53,7 @@ pub taken : (sound : Bool) (list : List ℕ) (s : Session) (a : ListAnswer) → 
     → Taken sound list s × (first_outside s.size 0 (pairs_of list) ≡ a)
 taken sound list s a o =
     each_check (λ (b : ListAnswer). b ≡ a → Taken sound list s × (first_outside s.size 0 (pairs_of list) ≡ a)) sound list s
-    (λ _ e. no (Err Unsound) refl e) (λ _ e. no (Err OtherVersion) refl e) (λ _ e. no (Err Suspended) refl e) (λ _ _ e. no (Err Windowless) refl e) (λ _ e. no (Err Malformed) refl e)
-    (λ t e. (t, e))
-  where
-    no : (r : ListAnswer) → of_pairs r ≡ false → r ≡ a → Taken sound list s × (first_outside s.size 0 (pairs_of list) ≡ a)
-    no r n e = absurd (false≢true (sym n ∙ ap of_pairs e ∙ o))
+    (λ _ e. absurd cc) (λ _ e. absurd cc) (λ _ e. absurd cc) (λ _ _ e. absurd cc) (λ _ e. absurd cc) (λ t e. (t, e))
 
 -- and the other way round
 pub answer_taken : (sound : Bool) (list : List ℕ) (s : Session) → Taken sound list s → answer_for sound list s ≡ first_outside s.size 0 (pairs_of list)
@@ -121,6 +109,6 @@ listed_unsound setup flash worn memory list s e = rw e
 pub pairs_code : (P : ℕ → Type 0) → P 1 → P 2 → (size place : ℕ) (pairs : List Pair) → P (list_code (first_outside size place pairs))
 pairs_code P one two size place [] = one
 pairs_code P one two size place (pair ∷ pairs) =
-    chosen (λ (a : ListAnswer). P (list_code a)) (not (is_inside size pair)) (Err (Outside place)) (first_outside size (suc place) pairs)
+    cond_both (not (is_inside size pair)) (Err (Outside place)) (first_outside size (suc place) pairs) (λ (a : ListAnswer). P (list_code a))
     (λ _. two)
     (λ _. pairs_code P one two size (suc place) pairs)

@@ -12,7 +12,7 @@ ghost use Rattle.marklist.specs.MarkList.{left, malformed, answer_for, listed};
 
 use pairs::{first_outside, mark_pairs};
 use session::{Board, Session, Window};
-use soundness::{Lengths, is_sound_at, with_marks};
+use soundness::{is_sound_at, with_marks};
 
 // The most pairs of a list.
 const MOST_PAIRS: usize = 64;
@@ -37,11 +37,13 @@ pub fn mark_list(
     session: Session,
     list: &[u16],
     board: Board,
-    lent: Lengths,
+    flash: usize,
+    worn: usize,
+    memory: usize,
 ) -> Result<Session, ListError>
-    ensures { left session result ≡ listed (set_up board) lent.flash lent.worn lent.memory list.now session }
+    ensures { left session result ≡ listed (set_up board) flash worn memory list.now session }
 {
-    let sound = is_sound_at(session, board, lent);
+    let sound = is_sound_at(session, board, flash, worn, memory);
     check(session, list, sound)?;
     Ok(with_marks(session, mark_pairs(session.marks, list)))
 }

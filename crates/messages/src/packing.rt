@@ -83,6 +83,7 @@ fn values_of(code: u8, version: u8, registers: [u8; 16]) -> [u8; 11]
         return values;
     }
     let count = usize::from(response_bytes(code, version));
+    // place by place: a copy of `count` bytes would call memcpy, which the archives do not ask of C
     for place in 0..11 {
         if place < count {
             values[place] = registers[2 + place];

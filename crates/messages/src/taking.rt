@@ -61,6 +61,7 @@ fn unpack(message: &[u8]) -> [u8; 16]
         ∷ (padded (parameters_of message.now) ++ (0 ∷ 0 ∷ 0 ∷ [])) }
 {
     let mut registers = [0; 16];
+    // place by place: a copy of the bytes that there are would call memcpy, which the archives do not ask of C
     for place in 0..13 {
         registers[place] = byte_at(message, place + 2);
     }

@@ -27,34 +27,28 @@ const MOST_MEMORY: u32 = 64;
 
 const LPC_BLOCKS: u64 = 65536;
 
-// The lengths of what a call is lent, in bytes: the flash, its map of worn blocks and the window memory.
-#[derive(Clone, Copy)]
-pub struct Lengths {
-    pub flash: usize,
-    pub worn: usize,
-    pub memory: usize,
-}
-
-// The lent sizes, in bytes, and the session are sound; the map of worn blocks has a byte for each block of the flash.
+// The lent sizes, in bytes, and the session are sound; the map of worn blocks has a byte for each block of the flash. The three
+// lengths are no struct: it would be read from memory here, 5 ns of each command, and GET_INFO misses its bar (docs/PERFORMANCE.md).
 #[tactic(auto, using(crate::proofs::Facts::block_count), unfolding(crate::specs::Soundness::sound, crate::specs::Soundness::sizes_sound))]
-pub fn is_sound(session: Session, lent: Lengths) -> bool
-    ensures { result ≡ sound lent.flash lent.worn lent.memory session }
+pub fn is_sound(session: Session, flash: usize, worn: usize, memory: usize) -> bool
+    ensures { result ≡ sound flash worn memory session }
 {
-    let flash_blocks = Bytes::from(lent.flash).blocks().0;
-    let memory_blocks = Bytes::from(lent.memory).blocks().0;
-    size_is_sound(MOST_FLASH, lent.flash)
-        && size_is_sound(MOST_MEMORY, lent.memory)
-        && lent.worn == flash_blocks as usize
+    let flash_blocks = Bytes::from(flash).blocks().0;
+    let memory_blocks = Bytes::from(memory).blocks().0;
+    size_is_sound(MOST_FLASH, flash)
+        && size_is_sound(MOST_MEMORY, memory)
+        && worn == flash_blocks as usize
         && session_is_sound(session, flash_blocks, memory_blocks)
 }
 
 // The same, with B: the window memory ends within the LPC blocks.
 #[tactic(auto, using(crate::proofs::Facts::sound_block_count), unfolding(crate::specs::Soundness::sound_at))]
-pub fn is_sound_at(session: Session, board: Board, lent: Lengths) -> bool
-    ensures { result ≡ sound_at (set_up board) lent.flash lent.worn lent.memory session }
+pub fn is_sound_at(session: Session, board: Board, flash: usize, worn: usize, memory: usize) -> bool
+    ensures { result ≡ sound_at (set_up board) flash worn memory session }
 {
-    let memory_blocks = Bytes::from(lent.memory).blocks().0;
-    is_sound(session, lent) && u64::from(board.lpc) + u64::from(memory_blocks) <= LPC_BLOCKS
+    let memory_blocks = Bytes::from(memory).blocks().0;
+    is_sound(session, flash, worn, memory)
+        && u64::from(board.lpc) + u64::from(memory_blocks) <= LPC_BLOCKS
 }
 
 // Whole blocks, at least one and at most so many.
