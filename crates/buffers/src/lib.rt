@@ -7,7 +7,7 @@
 ghost use Rattle.std.specs.Prelude.{◌≡◌, length, replicate};
 ghost use Rattle.buffers.specs.Ranges.{and_each, copy_each};
 
-// Sets every byte of the part to value.
+// Sets every byte of the part to value: the name that docs/STATEMENTS.md gives to `fill` of a slice.
 pub fn fill(part: &mut [u8], value: u8)
     ensures { part.new ≡ replicate (length part.old) value }
 {

@@ -13,7 +13,8 @@ use mailbox::command;
 use messages::{Pair, Response, open_message, pack, refuse};
 use session::{Board, Session};
 
-// What a message gives back: the session, the response and the number of chip actions.
+// What a message gives back: the session, the response and the number of chip actions. This and the two functions have twins in ipmiboard,
+// over C's record: its message.rt says why both stay.
 #[derive(Clone, Copy)]
 pub struct Reply {
     pub session: Session,

@@ -8,7 +8,8 @@ mod message;
 
 pub use message::hiomap_message;
 
-// What a message gives back: the response's bytes, zero behind them, how many they are, and the number of chip actions.
+// What a message gives back: the response's bytes, zero behind them, how many they are, and the number of chip actions. A buffer with its
+// length, since C has it so (include/hiomap.h).
 #[repr(C)]
 #[derive(Clone, Copy)]
 pub struct MessageReply {

@@ -34,7 +34,7 @@ pub(crate) fn write_command(port: &mut [u8; SIZE], code: u8)
 {
     let phase = Phase::from(port[PHASE]);
     port[COMMAND] = 1;
-    // the codes are bytes of the standard, and each stands here alone
+    // the codes are bytes of the standard, and each stands here alone; a match and no table, since each arm stores other bytes
     match code {
         0x60 => show(port, Phase::Aborting, 0),
         0x61 => open(port),

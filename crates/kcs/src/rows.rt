@@ -84,7 +84,7 @@ pub(crate) fn keep(port: &mut [u8; SIZE], byte: u8, last: bool) -> Option<u8>
     Some(longer)
 }
 
-// A data byte while the host reads: 68 asks for the next byte, or ends the transfer.
+// A data byte while the host reads: 68, a byte of the standard, asks for the next byte, or ends the transfer.
 pub(crate) fn read_on(port: &mut [u8; SIZE], byte: u8)
     ensures { port.new ≡ bytes_of (with_control
         (left (on_data reading true (has_next (control_of port.old)) byte) (next_byte (port_of port.old)) (control_of port.old))

@@ -1,7 +1,8 @@
 // Numbers in seven-bit groups, low group first: unsigned LEB128 in its shortest form.
 //
 // A row of such numbers is the bench program's input, and later the form of tables and recordings.
-// Every buffer, offset and number gets an answer, and a refused write changes nothing.
+// Every buffer, offset and number gets an answer, and a refused write changes nothing. So bytes and offset stay two parameters: a struct
+// of them would hold no offset less.
 #![tactic(auto)]
 
 ghost use Rattle.std.specs.Prelude.{◌≡◌, ◌≤◌, ◌<◌, length, drop, IfSome, IfNone};

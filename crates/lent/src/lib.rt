@@ -10,7 +10,7 @@ ghost use Rattle.mailbox.specs.Mediator.{mediate};
 use mailbox::{Answer, command};
 use session::{Board, Session};
 
-// What a command gives back besides the session: the 16 registers and the number of chip actions.
+// What a command gives back besides the session, which is lent: the 16 registers and the number of chip actions.
 #[derive(Clone, Copy)]
 pub struct Reply {
     pub registers: [u8; 16],

@@ -74,7 +74,8 @@ pub fn command(
 }
 
 // The published table of commands in its order. RESET, GET_INFO and ACK are unversioned; 11 and 12 are version 3's.
-// A match and no table of functions: each command is lent something else, and a table's rows would be boxed.
+// A match and no table of functions: each command is lent something else, and a table's rows would be boxed. Numbers and no enum: any
+// byte is answered, and a second match into an enum first is no plainer.
 #[tactic(auto, using(crate::proofs::Arms::create_row, crate::proofs::Arms::erase_row, crate::proofs::Arms::past_row))]
 fn run(call: Call, flash: &mut [u8], worn: &[u8], memory: &mut [u8]) -> Result<Answer, Reason>
     requires sizes { (size_sound 65535 (length flash.old) ≡ true) × (size_sound 64 (length memory.old) ≡ true) }

@@ -31,7 +31,8 @@ pub(crate) fn mark_dirty(call: Call) -> Result<Answer, Reason>
     Ok(marked.answer(marked.session, Code::Success, NO_ARGUMENTS, 0))
 }
 
-// ERASE: the named blocks are marked erased and become FF in the window memory, if they lie in the window.
+// ERASE: the named blocks are marked erased and become FF in the window memory, if they lie in the window. Beside MARK_DIRTY: one function
+// for both would be given the version, the mark and the memory, which is all that is in them.
 pub(crate) fn erase(call: Call, memory: &mut [u8]) -> Result<Answer, Reason>
     requires { to_bytes call.session.size ≤ length memory.old }
     ensures { (flash worn : List ℕ) → ran result call flash worn memory.new ≡ obeyed_by erase call flash worn memory.old }
@@ -90,7 +91,7 @@ fn fill_blocks(memory: &mut [u8], named: BlockRange)
     fill(&mut memory[start..end], chip::ERASED);
 }
 
-// All marked blocks are flushed, up to the first whose erase fails.
+// All marked blocks are flushed, up to the first whose erase fails. `close` ends in another answer, and no more stands twice.
 fn flush_all(call: Call, flash: &mut [u8], worn: &[u8], memory: &[u8]) -> Answer
     ensures { outcome result flash.new worn.now memory.now ≡ flushed_all call.registers (lent call.session flash.old worn.now memory.now) }
 {

@@ -100,7 +100,8 @@ fn open_at(window: Window, call: Call, flash: &mut [u8], worn: &[u8], memory: &m
     open_window(window, words.first, size, call, flash, worn, memory)
 }
 
-// A number that only version 2 has: the hint of a create, and the size and the place that it answers.
+// A number that only version 2 has: the hint of a create, and the size and the place that it answers. 0 and no Option: it is the
+// protocol's word for no hint, at version 2 too.
 fn late(version: u8, number: u16) -> u16
     ensures { result ≡ cond (ltb version 2) 0 number }
 {

@@ -1,5 +1,5 @@
 -- Marking block after block, by how far the pairs reach, is marking pair after pair.
-use Rattle.std.proofs.Common.{◌≡◌, ℕ, zero, suc, ◌+◌, ◌-◌, ◌≤◌, ◌<◌, max, cond, ◌&&◌, ◌||◌, List, [], ◌∷◌, length, get_or, set, replicate, leb, ltb, refl, sym, ◌∙◌, ⊎_elim, arith, length-set, get_or-set_same, get_or-set_other, ext_get_or}
+use Rattle.std.proofs.Common.{◌≡◌, ℕ, Bool, ap, zero, suc, ◌+◌, ◌-◌, ◌≤◌, ◌<◌, max, cond, ◌&&◌, ◌||◌, List, [], ◌∷◌, length, get_or, set, replicate, leb, ltb, refl, sym, ◌∙◌, ⊎_elim, arith, length-set, get_or-set_same, get_or-set_other, ext_get_or}
 use Rattle.std.proofs.lemmas.Bool.{cases_lt, cases_eq}
 use Rattle.std.proofs.lemmas.Bool.Decides.{nat_tests}
 use Rattle.std.proofs.lemmas.List.{length-replicate, get_or-replicate}
@@ -33,6 +33,9 @@ placed start count mark block marks fits =
     (cases_lt block (start + count)))
     (cases_lt block start)
 
+either : (a b : Bool) (x y : ℕ) → cond b x (cond a x y) ≡ cond (a || b) x y
+either a b x y = grind (arith, nat_tests)
+
 module _ (pair : Pair) (marks : List ℕ) (long : length marks ≡ 64) (fits : pair.block + pair.count ≤ 64) where
   fits_marks : pair.block + length (replicate pair.count dirty) ≤ length marks
   fits_marks = let count = length-replicate pair.count dirty in omega (arith, fits, long, count)
@@ -52,9 +55,9 @@ pairs_marked place [] marks long e block = refl
 pairs_marked place (pair ∷ pairs) marks long e block =
     let f = inside_front 64 place pair pairs e in
     let here : pair.block + pair.count ≤ length marks = omega (arith, f.0, long) in
-    let rest = pairs_marked (suc place) pairs (replace pair.block (replicate pair.count dirty) marks) (next_long pair marks long f.0) f.1 block in
-    let first = placed pair.block pair.count dirty block marks here in
-    grind (arith, nat_tests)
+    pairs_marked (suc place) pairs (replace pair.block (replicate pair.count dirty) marks) (next_long pair marks long f.0) f.1 block
+    ∙ ap (λ (n : ℕ). cond (is_listed pairs block) dirty n) (placed pair.block pair.count dirty block marks here)
+    ∙ either (leb pair.block block && ltb block (pair.block + pair.count)) (is_listed pairs block) dirty (get_or marks block 0)
 
 -- ---- how far the pairs reach
 

@@ -25,7 +25,7 @@ pub(crate) fn first_outside(list: &[u16], size: u16) -> Result<(), ListError>
 fn is_inside(block: u16, count: u16, size: u16) -> bool
     ensures { result ≡ leb (block + count) size }
 {
-    (block as u32) + (count as u32) <= (size as u32)
+    u32::from(block) + u32::from(count) <= u32::from(size)
 }
 
 // The marks with those of all pairs dirty: first how far the pairs reach, then block after block, so that a pair of
@@ -40,7 +40,7 @@ pub(crate) fn mark_pairs(marks: [u8; 64], list: &[u16]) -> [u8; 64]
 }
 
 // For each block the farthest end of the pairs that begin there, 0 where none does. A pair of no blocks may begin at
-// block 64.
+// block 64. 0 and no Option: `max` takes it as it is.
 #[tactic(auto, using(crate::proofs::InPairs::pairs_front, crate::proofs::InPairs::none_left, crate::proofs::InPairs::inside_front), unfolding(crate::specs::Reach::no_ends))]
 fn farthest_ends(list: &[u16]) -> [u8; 65]
     requires { first_outside 64 0 (pairs_of list.now) ≡ Marked }

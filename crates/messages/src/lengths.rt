@@ -9,7 +9,7 @@ ghost use Rattle.messages.specs.Lengths.{asked, told};
 pub(crate) fn request_bytes(code: u8, version: u8) -> Option<u8>
     ensures { result ≡ asked (row_of code version) }
 {
-    // numbers, and no enum: the published codes and versions, and any byte is answered
+    // numbers, and no enum: the published codes and versions, and any byte is answered; a struct of the two would be taken apart here
     match (version, code) {
         (0..=2, 1) => Some(0),
         (0..=2, 2) => Some(1),

@@ -22,7 +22,7 @@ pub fn refuse(taken: Result<(), Refusal>, message: &[u8]) -> Response
     }
 }
 
-// The three bytes of a response that has a completion code alone.
+// The three bytes of a response that has a completion code alone, a byte of the standard.
 fn complete(message: &[u8], completion: u8) -> Response
     ensures { result ≡ laid (headed message.now completion) }
 {
@@ -85,9 +85,11 @@ fn values_of(code: u8, version: u8, registers: [u8; 16]) -> [u8; 11]
     let count = usize::from(response_bytes(code, version));
     // place by place: a copy of `count` bytes would call memcpy, which the archives do not ask of C
     for place in 0..11 {
-        if place < count {
-            values[place] = registers[2 + place];
-        }
+        values[place] = if place < count {
+            registers[2 + place]
+        } else {
+            0
+        };
     }
     values
 }

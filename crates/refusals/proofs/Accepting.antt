@@ -22,12 +22,12 @@ pub passed : (sound : Bool) (s : Session) (registers : List ℕ) (known : Bool) 
     → reason_for sound s registers known needs broken ≡ Accepted → Passed sound s registers known needs broken
 unfolding reason_for
 passed sound s registers known needs broken e =
-    let a = by _ _ _ e in
-    let b = by _ _ _ a.1 in
-    let c = by _ _ _ b.1 in
-    let d = by _ _ _ c.1 in
-    let f = by _ _ _ d.1 in
-    let g = by _ _ _ f.1 in
+    let a = by (not sound) System _ e in
+    let b = by (needs_number needs && is_previous s.previous (sequence_of registers)) Repeated _ a.1 in
+    let c = by (not known) Unknown _ b.1 in
+    let d = by (needs_access needs && s.suspended) Suspended _ c.1 in
+    let f = by (needs_window needs && not (is_write s.window)) Windowless _ d.1 in
+    let g = by broken Argument Accepted f.1 in
     record {
       sounds = not-false sound a.0;
       fresh = b.0;

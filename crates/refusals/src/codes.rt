@@ -34,7 +34,7 @@ impl From<Code> for u8 {
     }
 }
 
-// The response code at the agreed version, of a command that no check refuses too.
+// The response code at the agreed version, of a command that no check refuses too, as docs/STATEMENTS.md has it.
 pub fn code_for(version: u8, checked: Result<(), Reason>) -> Code
     ensures { code_number result ≡ code_for version checked }
 {

@@ -63,6 +63,7 @@ pub fn serve(
     ensures { effected session result flash.new memory.new
         ≡ effect_read (set_up board) item (lent session flash.old none_worn memory.old) }
 {
+    // a match and no table: each arm is lent something else
     match item?.body {
         Record::Command { registers } => {
             // S = 4, and no block is worn

@@ -39,7 +39,7 @@ impl<'a> Printed<'a> {
         self.end = at + part.len();
     }
 
-    // Puts a number in decimal.
+    // Puts a number in decimal, by the kit's digits: each byte is in `run`'s contract.
     fn put_decimal(&mut self, n: usize)
         requires { self.old.end ≤ 1000000 }
         ensures puts { Puts self.old (decimal n) self.new }

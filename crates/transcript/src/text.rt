@@ -15,7 +15,7 @@ pub(crate) fn register_line(registers: [u8; 16]) -> [u8; 48]
     line
 }
 
-// The character of the low hex digit.
+// The character of the low hex digit. By hand, and no {:X}: each byte is in `run`'s contract.
 fn hex_digit(byte: u8) -> u8
     ensures { result ≡ hex_digit (byte % 16) }
 {
