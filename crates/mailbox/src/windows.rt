@@ -1,5 +1,5 @@
 // RESET, CREATE_READ_WINDOW, CREATE_WRITE_WINDOW and CLOSE_WINDOW.
-ghost use Rattle.std.specs.Prelude.{◌≡◌, ℕ, ◌+◌, ◌≤◌, ◌<◌, true, cond, List, ltb, length};
+ghost use Rattle.std.specs.Prelude.{◌≡◌, ℕ, ◌+◌, ◌≤◌, ◌<◌, true, cond, List, leb, ltb, length};
 ghost use Rattle.buffers.specs.Ranges.{range, replace};
 ghost use Rattle.units.specs.Units.{to_bytes, round_up};
 ghost use Rattle.session.specs.Machine.{set_up, lent};
@@ -54,12 +54,20 @@ pub(crate) fn create(
     ensures { ran result call flash.new worn.now memory.new ≡ obeyed_by (create (command_of call.registers) window) call flash.old worn.now memory.old }
 {
     call.check(1, Needs::Access, false)?;
-    let blocks = Bytes::from(flash.len()).blocks().0;
-    let outside = blocks <= u32::from(read_words(call.registers).first);
-    if outside {
+    if is_outside(flash.len(), call.registers) {
         return Ok(close_first(call.numbered(), flash, worn, memory));
     }
     Ok(open_at(window, call.numbered(), flash, worn, memory))
+}
+
+// The block of a create lies outside the flash, by the length of it in bytes.
+#[tactic(auto, using(soundness::proofs::Facts::block_count))]
+fn is_outside(flash: usize, registers: [u8; 16]) -> bool
+    requires { size_sound 65535 flash ≡ true }
+    ensures { result ≡ leb (round_up flash) (number 2 0 registers) }
+{
+    let blocks = Bytes::from(flash).blocks().0;
+    blocks <= u32::from(read_words(registers).first)
 }
 
 // The window is flushed and dropped; where an erase fails it stays.

@@ -1,9 +1,7 @@
 -- `mailbox::windows::create`: refused by the table, closed for a block outside the flash, or opened.
-use Rattle.std.proofs.Common.{◌≡◌, List, ℕ, refl, ap, ◌∙◌, length, arith, rules}
-use borrow.Author.Tests.{le-leb, lt-leb}
-use Rattle.units.specs.Units.{round_up}
-use Rattle.registers.specs.Registers.{command_of, number}
-use Rattle.soundness.proofs.Facts.{block_count, sized}
+use Rattle.std.proofs.Common.{◌≡◌, List, ℕ, refl, sym, ap, ◌∙◌, length, rules}
+use Rattle.registers.specs.Registers.{command_of}
+use Rattle.soundness.proofs.Facts.{sized}
 use Rattle.refusals.specs.Refusals.{Accepted}
 use Rattle.session.specs.declared.Board.{Board}
 use Rattle.session.specs.declared.Session.{Session}
@@ -24,13 +22,11 @@ open_at-requires-clause-flash_blocks c = let f = sized 65535 (length c.args.flas
 pub open_at-requires-clause-memory_blocks : goal.open_at-requires-clause-memory_blocks
 open_at-requires-clause-memory_blocks c = let m = sized 64 (length c.args.memory.now) c.requires.1 in (m.whole, m.few)
 
-pub returns-then-outside : goal.returns-then-outside
-returns-then-outside c =
+pub returns-then-is_outside : goal.returns-then-is_outside
+returns-then-is_outside c =
     let a = c.args in
     let e : c.check.result ≡ Accepted = search rules in
-    let blocks : c.blocks-blocks.result.0 ≡ round_up (length a.flash.now) = search (rules, block_count) in
-    let first : c.from-2.result ≡ number 2 0 a.call.registers = search rules in
-    let outside = le-leb (round_up (length a.flash.now)) (number 2 0 a.call.registers) (omega (arith, c.if-outside.true, blocks, first)) in
+    let outside = sym c.is_outside.ensures ∙ c.if-is_outside.true in
     let b = broken_last (create (command_of a.call.registers) a.window) a.call a.flash.now a.worn.now a.memory.now refl c.check.ensures e outside in
     c.close_first.ensures
     ∙ ap (λ (t : List ℕ). closing_first 2 t (lent c.numbered.result.session a.flash.now a.worn.now a.memory.now)) c.numbered.ensures.registers
@@ -41,9 +37,7 @@ pub returns : goal.returns
 returns c =
     let a = c.args in
     let e : c.check.result ≡ Accepted = search rules in
-    let blocks : c.blocks-blocks.result.0 ≡ round_up (length a.flash.now) = search (rules, block_count) in
-    let first : c.from-2.result ≡ number 2 0 a.call.registers = search rules in
-    let inside = lt-leb (round_up (length a.flash.now)) (number 2 0 a.call.registers) (omega (arith, c.if-outside.false, blocks, first)) in
+    let inside = sym c.is_outside.ensures ∙ c.if-is_outside.false in
     let s = served_last (create (command_of a.call.registers) a.window) a.call a.flash.now a.worn.now a.memory.now refl c.check.ensures e inside in
     c.open_at.ensures
     ∙ ap (λ (t : Board). created a.window (set_up t) c.numbered-2.result.registers (lent c.numbered-2.result.session a.flash.now a.worn.now a.memory.now)) c.numbered-2.ensures.board
