@@ -16,12 +16,12 @@ module _ (call : Call) (flash worn memory : List ℕ) where
   at_row n e = ap (λ (k : ℕ). obeyed_by (command_at k) call flash worn memory) (sym e)
 
   -- codes 4 and 6
-  read_row : get_or call.registers 0 0 ≡ 4
+  pub read_row : get_or call.registers 0 0 ≡ 4
       → obeyed_by (create (command_of call.registers) Read) call flash worn memory ≡ obeyed_by (command_in call.registers) call flash worn memory
   unfolding command_at
   read_row e = ap (λ (k : ℕ). obeyed_by (create k Read) call flash worn memory) e ∙ at_row 4 e
 
-  write_row : get_or call.registers 0 0 ≡ 6
+  pub write_row : get_or call.registers 0 0 ≡ 6
       → obeyed_by (create (command_of call.registers) Write) call flash worn memory ≡ obeyed_by (command_in call.registers) call flash worn memory
   unfolding command_at
   write_row e = ap (λ (k : ℕ). obeyed_by (create k Write) call flash worn memory) e ∙ at_row 6 e

@@ -10,9 +10,8 @@ mod marks;
 mod numbering;
 mod windows;
 
-ghost use Rattle.std.specs.Prelude.{◌≡◌, ◌≤◌, true, cond, eqb, length};
+ghost use Rattle.std.specs.Prelude.{◌≡◌, ◌≤◌, true, length};
 ghost use Rattle.units.specs.Units.{to_bytes};
-ghost use Rattle.session.specs.declared.Window.TheVariants.{Read, Write};
 ghost use Rattle.session.specs.Machine.{set_up, lent};
 ghost use Rattle.soundness.specs.Soundness.{size_sound};
 ghost use Rattle.mailbox.specs.Commands.{outcome};
@@ -88,23 +87,19 @@ fn run(call: Call, flash: &mut [u8], worn: &[u8], memory: &mut [u8]) -> Result<A
         2 => get_info(call, memory),
         3 => get_flash_info(call, flash),
         // one call, so that it is compiled in place (docs/PERFORMANCE.md)
-        4 | 6 => create(window_of(call.registers[0]), call, flash, worn, memory),
+        4 | 6 => {
+            let window = if call.registers[0] == 4 {
+                Window::Read
+            } else {
+                Window::Write
+            };
+            create(window, call, flash, worn, memory)
+        }
         5 => close_window(call, flash, worn, memory),
         7 => mark_dirty(call),
         8 => flush(call, flash, worn, memory),
         9 => acknowledge(call),
         10 => erase(call, memory),
         11..=255 => unknown(call),
-    }
-}
-
-// The window that a create of code 4 or 6 opens.
-fn window_of(code: u8) -> Window
-    ensures { result ≡ cond (eqb code 4) Read Write }
-{
-    if code == 4 {
-        Window::Read
-    } else {
-        Window::Write
     }
 }

@@ -26,7 +26,7 @@ pub(crate) fn mark_dirty(call: Call) -> Result<Answer, Reason>
     ensures { (flash worn memory : List ℕ) → ran result call flash worn memory ≡ obeyed_by mark_dirty call flash worn memory }
 {
     call.check(1, Needs::WriteWindow, false)?;
-    let named = blocks_named(call.session, call.registers).ok_or(Reason::Argument)?;
+    let named = blocks_named(call.session, call.registers).or(Err(Reason::Argument))?;
     let marked = call.numbered().marked(named, DIRTY);
     Ok(marked.answer(marked.session, Code::Success, NO_ARGUMENTS, 0))
 }
@@ -38,7 +38,7 @@ pub(crate) fn erase(call: Call, memory: &mut [u8]) -> Result<Answer, Reason>
     ensures { (flash worn : List ℕ) → ran result call flash worn memory.new ≡ obeyed_by erase call flash worn memory.old }
 {
     call.check(2, Needs::WriteWindow, false)?;
-    let named = blocks_named(call.session, call.registers).ok_or(Reason::Argument)?;
+    let named = blocks_named(call.session, call.registers).or(Err(Reason::Argument))?;
     fill_blocks(memory, named);
     let marked = call.numbered().marked(named, ERASED);
     Ok(marked.answer(marked.session, Code::Success, NO_ARGUMENTS, 0))
@@ -59,7 +59,7 @@ pub(crate) fn flush(
         flush_outside(call.session, call.registers),
     )?;
     let named = if flush_marks(call.session, call.registers) {
-        blocks_named(call.session, call.registers)
+        blocks_named(call.session, call.registers).ok()
     } else {
         None
     };

@@ -21,9 +21,10 @@ pub record NamedBlocks : Type 0 where
   pub start : ℕ
   pub count : ℕ
 
--- as the code has them: none where they do not
-abbrev pub range_of : NamedBlocks → Option BlockRange
-range_of named = cond named.inside (Some (record { start = named.start; count = named.count })) None
+-- as the code has them: an error where they do not
+abbrev pub range_of : NamedBlocks → Result BlockRange BlockRange
+range_of named =
+    cond named.inside (Ok (record { start = named.start; count = named.count })) (Err (record { start = named.start; count = named.count }))
 
 -- "version 1: flash block a (0-1) and L bytes (2-5); L is rounded up to k blocks, and blocks a to a + k must lie between the window's first
 -- block and its end. Version 2: window block w (0-1) and k blocks (2-3), with w + k <= size. Sums are whole-number sums": whether the blocks

@@ -14,8 +14,8 @@ pub fn flush_marks(session: Session, registers: [u8; 16]) -> bool
     session.version < 2 && read_length(registers) != 0
 }
 
-// The window's blocks that MARK_DIRTY, ERASE, or FLUSH at version 1, names; none where they do not all lie in it.
-pub fn blocks_named(session: Session, registers: [u8; 16]) -> Option<BlockRange>
+// The window's blocks that MARK_DIRTY, ERASE, or FLUSH at version 1, names; as an error where they do not all lie in it.
+pub fn blocks_named(session: Session, registers: [u8; 16]) -> Result<BlockRange, BlockRange>
     ensures { result ≡ range_of (blocks_named session registers) }
 {
     let words = read_words(registers);
@@ -33,11 +33,16 @@ pub fn blocks_named(session: Session, registers: [u8; 16]) -> Option<BlockRange>
 pub fn flush_outside(session: Session, registers: [u8; 16]) -> bool
     ensures { result ≡ (flush_marks session registers && not (blocks_named session registers).inside) }
 {
-    flush_marks(session, registers) && blocks_named(session, registers).is_none()
+    flush_marks(session, registers) && blocks_named(session, registers).is_err()
 }
 
-// Of blocks that are counted from where a window is counted from, those of the window; none where they do not all lie in it.
-fn within(first: Blocks, size: Blocks, named: Blocks, count: Blocks) -> Option<BlockRange>
+// Of blocks that are counted from where a window is counted from, those of the window; as an error where they do not all lie in it.
+fn within(
+    first: Blocks,
+    size: Blocks,
+    named: Blocks,
+    count: Blocks,
+) -> Result<BlockRange, BlockRange>
     requires { (first.0 < 65536) × (size.0 < 65536) × (named.0 < 65536) × (count.0 ≤ 1048576) }
     ensures { result ≡ range_of (record {
       inside = leb first.0 named.0 && leb (named.0 + count.0) (first.0 + size.0);
@@ -45,11 +50,12 @@ fn within(first: Blocks, size: Blocks, named: Blocks, count: Blocks) -> Option<B
       count = count.0;
     }) }
 {
-    if named.0 < first.0 || named.0 + count.0 > first.0 + size.0 {
-        return None;
-    }
-    Some(BlockRange {
-        start: named.0 - first.0,
+    let range = BlockRange {
+        start: named.0.saturating_sub(first.0),
         count: count.0,
-    })
+    };
+    if named.0 < first.0 || named.0 + count.0 > first.0 + size.0 {
+        return Err(range);
+    }
+    Ok(range)
 }

@@ -36,7 +36,7 @@ pub enum Needs {
     WriteWindow,
 }
 
-// Blocks of the window.
+// Blocks by the window's own count: which is the first, and how many.
 #[derive(Clone, Copy)]
 pub struct BlockRange {
     pub start: u32,

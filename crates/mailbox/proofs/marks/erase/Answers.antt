@@ -1,8 +1,8 @@
 -- `mailbox::marks::erase`: refused, by the table or for its argument, or the named blocks marked and made FF.
-use Rattle.std.proofs.Common.{◌≡◌, refl, ap, not, None, Some, sym, ◌∙◌, rules}
+use Rattle.std.proofs.Common.{◌≡◌, refl, ap, not, Ok, Err, rules}
 use Rattle.refusals.specs.Refusals.{Accepted, blocks_named}
 use Rattle.mailbox.specs.Table.{erase}
-use Rattle.mailbox.proofs.Marking.{range_none, range_some}
+use Rattle.mailbox.proofs.Marking.{range_refused, range_given}
 use Rattle.mailbox.proofs.Ran.{refused_first, broken_last, served_last}
 use Rattle.mailbox.proofs.marks.erase.Goals as goal
 
@@ -13,15 +13,18 @@ returns-in_err-check c flash worn =
 pub returns-in_err-named : goal.returns-in_err-named
 returns-in_err-named c flash worn =
     let a : c.check.result ≡ Accepted = search rules in
-    let none : c.blocks_named.result ≡ None = search rules in
-    let inside = range_none (blocks_named c.args.call.session c.args.call.registers) (sym c.blocks_named.ensures ∙ none) in
-    let b = broken_last erase c.args.call flash worn c.args.memory.now refl c.check.ensures a (ap not inside) in search rules
+    let q = c.in_err-named.field-0.0 in
+    let none : c.or.result ≡ Err q = search rules in
+    let n = range_refused (blocks_named c.args.call.session c.args.call.registers) c.blocks_named.result c.or.result q c.blocks_named.ensures c.or.ensures none in
+    let argument = n.1 in
+    let b = broken_last erase c.args.call flash worn c.args.memory.now refl c.check.ensures a (ap not n.0) in search rules
 
 pub returns : goal.returns
 returns c flash worn =
     let a : c.check.result ≡ Accepted = search rules in
-    let some : c.blocks_named.result ≡ Some c.in_ok-named.named = search rules in
-    let n = range_some (blocks_named c.args.call.session c.args.call.registers) c.in_ok-named.named (sym c.blocks_named.ensures ∙ some) in
+    let named = c.in_ok-named.named in
+    let given : c.or.result ≡ Ok named = search rules in
+    let n = range_given (blocks_named c.args.call.session c.args.call.registers) c.blocks_named.result c.or.result named c.blocks_named.ensures c.or.ensures given in
     let s = served_last erase c.args.call flash worn c.args.memory.now refl c.check.ensures a (ap not n.0) in
     rw (
       c.answer.ensures,

@@ -1,5 +1,6 @@
 -- `mailbox::marks::flush`: refused, or flushed with the marks that it makes itself.
 use Rattle.std.proofs.Common.{◌≡◌, refl, ap, cond, leb, Option, None, Some, Bool, true, false, List, ℕ, replicate, sym, ◌∙◌, rules}
+use Rattle.std.specs.Result.{result_ok}
 use Rattle.buffers.specs.Ranges.{replace}
 use Rattle.session.specs.declared.Session.{Session}
 use Rattle.session.specs.Machine.{lent}
@@ -40,10 +41,10 @@ returns c =
     let r = a.call.registers in
     let e : c.check.result ≡ Accepted = search rules in
     let outside = sym c.flush_outside.ensures ∙ (passed true s r (leb 1 s.version) WriteWindow c.flush_outside.result (sym c.check.ensures ∙ e)).argued in
-    let either : Bool → Option BlockRange = λ b. cond b (range_of (blocks_named s r)) None in
+    let either : Bool → Option BlockRange = λ b. cond b (result_ok (range_of (blocks_named s r))) None in
     let named : c.if-flush_marks.named ≡ either (flush_marks s r) =
     elim c.if-flush_marks.branch [
-      | then-flush_marks w ↦ w.named-is ∙ w.blocks_named-named.ensures ∙ ap either (sym w.if-flush_marks.true ∙ c.flush_marks.ensures)
+      | then-flush_marks w ↦ w.named-is ∙ w.ok-named.ensures.value ∙ ap result_ok w.blocks_named.ensures ∙ ap either (sym w.if-flush_marks.true ∙ c.flush_marks.ensures)
       | else-flush_marks w ↦ w.named-is ∙ ap either (sym w.if-flush_marks.false ∙ c.flush_marks.ensures)
     ] in
     let session : c.match-named.flushing.session ≡ flushing (numbered s r) r =
