@@ -1,4 +1,4 @@
--- What a method leaves that puts bytes behind what is printed.
+-- For private functions: what a method leaves that puts bytes behind what is printed.
 use Rattle.std.specs.Prelude.{ℕ, ◌≡◌, ◌+◌, List, length}
 use Rattle.transcript.specs.declared.printing.Printed.{Printed}
 use Rattle.transcript.specs.Printing.{written}

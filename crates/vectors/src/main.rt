@@ -89,7 +89,12 @@ fn read(rt: &impl Print, part: &[u8]) -> io::Result<()> {
 
 // How many bytes of a part hold a value.
 fn count(part: &[u8], value: u8) -> usize {
-    part.iter().filter(|b| **b == value).count()
+    let mut count = 0;
+    // a sum, and no filter: that is a branch for each byte
+    for byte in part {
+        count += usize::from(*byte == value);
+    }
+    count
 }
 
 // Whether an action was done, and how many bytes are F0, 0F, FF and 00 after it.
