@@ -14,7 +14,7 @@ ghost use Rattle.soundness.specs.Soundness.{sound, sound_at, size_sound, access_
 use marks::look_at;
 pub use marks::with_marks;
 pub use pending_work::{PendingWork, pending};
-use session::{Board, Session, Window, is_control_lost};
+use session::{Board, Session, Window, is_control_lost, same_counts};
 use units::Bytes;
 
 // The last version that there is.
@@ -102,7 +102,7 @@ fn marks_and_counts_are_sound(session: Session) -> bool
     ensures { result ≡ (marks_sound (markable session.window session.size) session.marks && counts_sound session) }
 {
     let look = look_at(session.marks, markable_blocks(session.window, session.size));
-    look.within && session.counts == look.counts
+    look.within && same_counts(session.counts, look.counts)
 }
 
 // How many blocks of the window may be marked.

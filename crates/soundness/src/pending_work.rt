@@ -3,7 +3,7 @@ ghost use Rattle.std.specs.Prelude.{◌≡◌};
 ghost use Rattle.soundness.specs.Pending.{pending_in};
 
 use crate::marks::{EVERY_BLOCK, look_at};
-use session::Session;
+use session::{Session, same_counts};
 
 // The chip actions of a dirty block: the erase, and 16 pages.
 const DIRTY_ACTIONS: u32 = 17;
@@ -20,7 +20,7 @@ pub fn pending(session: Session) -> Option<PendingWork>
     ensures { result ≡ pending_in session }
 {
     let counts = session.counts;
-    if counts != look_at(session.marks, EVERY_BLOCK).counts {
+    if !same_counts(counts, look_at(session.marks, EVERY_BLOCK).counts) {
         return None;
     }
     let dirty = u32::from(counts.dirty);
