@@ -3,16 +3,25 @@ use mathlib.Core.Path.{◌≡◌, refl, sym, ap, ◌∙◌}
 use mathlib.Core.List.{List}
 use Prim.Native.Nat.{ℕ}
 use Rattle.std.specs.Prelude.{Option}
-use lib.ListN.{length, set}
-use Rattle.kcs.specs.Port.{Port}
-use Rattle.kcs.specs.Effects.{Effect, data_effect, with_command, told_message}
-use Rattle.kcs.specs.Accesses.{effected, with_control, next_byte, data_written, message_told}
+use lib.ListN.{length, get_or, set}
+use Rattle.kcs.specs.Port.{Port, phase_of}
+use Rattle.kcs.specs.Effects.{Effect, on_command, data_effect, left, with_command, told_message}
+use Rattle.kcs.specs.Accesses.{effected, with_control, next_byte, command_written, data_written, message_told}
 use Rattle.kcs.specs.Bytes.{control_of, port_of, bytes_of}
 use Rattle.kcs.proofs.Places.{changed}
 
 -- the port with another C/D#
 commanded : (n : ℕ) (xs : List ℕ) → length xs ≡ 136 → port_of (set xs 1 n) ≡ with_control (with_command n (control_of xs)) (port_of xs)
 commanded n = changed (λ (ys : List ℕ). set ys 1 n) (with_command n) (λ c t. refl)
+
+pub command_left
+    : (effect : Effect) (code : ℕ) (xs ys : List ℕ) → length xs ≡ 136 → on_command (phase_of (get_or xs 0 0)) code ≡ effect
+    → ys ≡ bytes_of (with_control (left effect 0x00 (control_of (set xs 1 1))) (port_of (set xs 1 1)))
+    → ys ≡ bytes_of (command_written code (port_of xs))
+command_left effect code xs ys long row e =
+    e
+    ∙ ap (λ (p : Port). bytes_of (with_control (left effect 0x00 p.control) p)) (commanded 1 xs long)
+    ∙ ap (λ (f : Effect). bytes_of (with_control (left f 0x00 (with_command 1 (control_of xs))) (port_of xs))) (sym row)
 
 -- a row of data may ask for the port that it finds
 pub data_left

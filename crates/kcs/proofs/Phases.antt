@@ -15,7 +15,7 @@ use Rattle.kcs.specs.declared.phase.Phase.TheVariants.{Idle, Writing, Ending, Aw
 use Rattle.kcs.specs.Kinds.{phase_meant}
 use Rattle.kcs.specs.Port.{Port, Phase, idle, writing, ending, awaiting, reading, aborting, failed, phase_of, number_of}
 use Rattle.units.proofs.Cases.{chosen}
-use Rattle.kcs.specs.Effects.{Keeps, Completes, TooLong, Tells, WrongCode, on_end, on_data, left, told_message}
+use Rattle.kcs.specs.Effects.{Keeps, Completes, TooLong, Tells, Continues, Finishes, WrongCode, on_end, on_data, left, told_length, told_message}
 use Rattle.kcs.specs.Accesses.{effected, with_control}
 use Rattle.kcs.specs.Bytes.{}
 
@@ -47,6 +47,21 @@ number_stored Reading = refl
 number_stored Aborting = refl
 number_stored Failed = refl
 
+-- data is taken in four phases
+pub no_data
+    : (n : ℕ) (room more : Bool) (byte : ℕ) → (n ≡ 1 → ⊥) → (n ≡ 2 → ⊥) → (n ≡ 4 → ⊥) → (n ≡ 5 → ⊥) → on_data (phase_of n) room more byte ≡ WrongCode
+no_data n room more byte n₁ n₂ n₄ n₅ =
+    each_phase
+    (λ p. on_data p room more byte ≡ WrongCode)
+    n
+    (λ _. refl)
+    (λ e. absurd (n₁ e))
+    (λ e. absurd (n₂ e))
+    (λ _. refl)
+    (λ e. absurd (n₄ e))
+    (λ e. absurd (n₅ e))
+    refl
+
 -- a byte of the request, the last one in the second phase
 pub kept_data
     : (phase : Kind) (last : Bool) (n : ℕ) (room more : Bool) (byte : ℕ)
@@ -55,7 +70,15 @@ pub kept_data
 kept_data phase last n room more byte (inl e) same meant = rw (sym meant, same, e) refl
 kept_data phase last n room more byte (inr e) same meant = rw (sym meant, same, e) refl
 
--- what 00 does keeps no byte and completes no message
+-- what 68 and 00 do keeps no byte and completes no message
+pub reading_step
+    : (asked more : Bool) (given byte : ℕ) (p : Port)
+    → (with_control (left (cond asked (cond more Continues Finishes) WrongCode) given p.control) p ≡ effected (cond asked (cond more Continues Finishes) WrongCode) given byte p)
+    × (0 ≡ told_length (cond asked (cond more Continues Finishes) WrongCode) p.control)
+reading_step true true given byte p = (refl, refl)
+reading_step true false given byte p = (refl, refl)
+reading_step false more given byte p = (refl, refl)
+
 pub aborting_step
     : (asked : Bool) (given byte : ℕ) (p : Port)
     → (with_control (left (cond asked Tells WrongCode) given p.control) p ≡ effected (cond asked Tells WrongCode) given byte p)

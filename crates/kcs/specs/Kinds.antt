@@ -1,4 +1,4 @@
--- The phases of the code as those of the table, and the status that 60 tells.
+-- For private functions: the phases of the code as those of the table, and the status that 60 tells.
 use Rattle.std.specs.Prelude.{ℕ}
 use Rattle.kcs.specs.Port.{Phase, idle, writing, ending, awaiting, reading, aborting, failed}
 use Rattle.kcs.specs.declared.phase.Phase.{Phase as Kind}

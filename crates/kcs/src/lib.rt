@@ -12,7 +12,8 @@ mod rows;
 
 ghost use Rattle.std.specs.Prelude.{◌≡◌};
 ghost use Rattle.kcs.specs.Port.{fresh};
-ghost use Rattle.kcs.specs.Accesses.{status_read, byte_read, data_read, command_written, data_written, message_told, answers, answered};
+ghost use Rattle.kcs.specs.Accesses.{status_read, byte_read, data_read, command_written, data_written, length_told, message_told, answers, answered};
+ghost use Rattle.std.specs.Option.{unwrap_or};
 ghost use Rattle.kcs.specs.Bytes.{port_of, bytes_of};
 
 pub use in_place::{
@@ -58,10 +59,12 @@ impl Port {
         accesses::write_command(&mut self.bytes, code);
     }
 
-    // The host writes to Data_In; the answer is the length of the message that this completed.
+    // The host writes to Data_In; the answer is the length of the message that this completed, the number that is told in place.
+    #[tactic(auto, using(crate::proofs::Phases::told_number))]
     pub fn write_data(&mut self, byte: u8) -> Option<u8>
-        ensures { (self.new.bytes ≡ bytes_of (data_written byte (port_of self.old.bytes)))
+        ensures written { (self.new.bytes ≡ bytes_of (data_written byte (port_of self.old.bytes)))
             × (result ≡ message_told byte (port_of self.old.bytes)) }
+        ensures number { unwrap_or result 0 ≡ length_told byte (port_of self.old.bytes) }
     {
         accesses::write_data(&mut self.bytes, byte)
     }

@@ -119,17 +119,13 @@ pub(crate) fn finish(port: &mut [u8; SIZE])
     show(port, Phase::Idle, 0);
 }
 
-// A data byte that follows 60: 00 gets the status, which is all that is read then.
-pub(crate) fn tell(port: &mut [u8; SIZE], byte: u8)
+// 00 follows 60, and gets the status, which is all that is read then.
+pub(crate) fn tell(port: &mut [u8; SIZE])
     ensures { (given : ℕ) → port.new ≡ bytes_of (with_control
-        (left (on_data aborting true true byte) given (control_of port.old))
+        (left (on_data aborting true true 0x00) given (control_of port.old))
         (port_of port.old)) }
 {
     let fault = port[FAULT];
-    if byte != 0 {
-        refuse(port, Fault::WrongCode);
-        return;
-    }
     port[END] = 0;
     show(port, Phase::Reading, fault);
 }

@@ -1,6 +1,6 @@
-use Rattle.std.proofs.Common.{set, ap, ◌∙◌, sym, cond, eqb, true}
+use Rattle.std.proofs.Common.{ℕ, set, ap, ◌∙◌, sym, cond, true}
 use Rattle.kcs.specs.Port.{Port, Phase, aborting}
-use Rattle.kcs.specs.Effects.{Keeps, Completes, TooLong, has_room, has_next, on_data}
+use Rattle.kcs.specs.Effects.{Keeps, Completes, TooLong, Tells, has_room, has_next, on_data}
 use Rattle.kcs.specs.Accesses.{next_byte}
 use Rattle.kcs.specs.Bytes.{control_of, port_of, bytes_of}
 use Rattle.kcs.proofs.Phases.{kept_data}
@@ -13,9 +13,10 @@ returns-in-Aborting c =
     let a = c.args in
     let xs = a.port.now in
     let p = port_of (set xs 1 0) in
-    let step = aborting_step (eqb a.byte 0x00) (next_byte p) a.byte p in
-    data_left (λ (q : Port). on_data aborting true true a.byte) a.byte _ xs _ c.told-port
-    (ap (λ (q : Phase). on_data q (has_room (control_of xs)) (has_next (control_of xs)) a.byte) (sym c.in-Aborting.ensures))
+    let step = aborting_step true (next_byte p) a.byte p in
+    data_left (λ (q : Port). Tells) a.byte _ xs _ c.told-port
+    (ap (λ (q : Phase). on_data q (has_room (control_of xs)) (has_next (control_of xs)) a.byte) (sym c.in-Aborting.ensures)
+    ∙ ap (λ (n : ℕ). on_data aborting true true n) c.if-byte-eq0.true)
     (c.tell.ensures (next_byte p) ∙ ap bytes_of step.0)
     step.1
 
