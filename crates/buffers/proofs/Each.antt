@@ -34,12 +34,12 @@ module _ (f : ℕ → ℕ → ℕ) where
   step (suc i) (x ∷ xs) (y ∷ ys) h k = ap (λ (t : List ℕ). f x y ∷ t) (step i xs ys (le_of_suc-le-suc h) (le_of_suc-le-suc k))
 
   -- one turn
-  each_more : (i : ℕ) (xs ys : List ℕ) → i < length xs → i < length ys
+  pub each_more : (i : ℕ) (xs ys : List ℕ) → i < length xs → i < length ys
       → set (part_way i xs ys) i (f (get_or (part_way i xs ys) i 0) (get_or ys i 0)) ≡ part_way (i + 1) xs ys
   each_more i xs ys h k = rw add-one (step i xs ys h k)
 
   -- the last turn: one of the two has no byte left
-  each_all : (n : ℕ) (xs ys : List ℕ) → n ≤ length xs → (n < length xs → length ys ≤ n) → part_way n xs ys ≡ each f xs ys
+  pub each_all : (n : ℕ) (xs ys : List ℕ) → n ≤ length xs → (n < length xs → length ys ≤ n) → part_way n xs ys ≡ each f xs ys
   each_all zero [] ys h k = refl
   each_all zero (x ∷ xs) [] h k = refl
   each_all zero (x ∷ xs) (y ∷ ys) h k = absurd (not-suc-le-zero (k (suc-le-suc zero-le)))

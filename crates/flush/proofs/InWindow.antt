@@ -22,7 +22,7 @@ use Rattle.flush.proofs.Lists.{flush_uncounted}
 use Rattle.flush.proofs.Failing.{until_all, some_none, until_finished, before_failing, failing_some, left_as}
 use Rattle.flush.proofs.Whole.{in_none}
 use Rattle.std.specs.Prelude.{Option, is_some}
-use Rattle.flush.specs.Worn.{until_failure, some_fail, failing_block, finished_by, marks_kept}
+use Rattle.flush.specs.Worn.{until_failure, some_fail, finished_blocks, failing_block, finished_by, marks_kept}
 use Rattle.flush.specs.Window.{window_actions, window_part, perform_in, window_worn, done_actions, flush_fails, has_next, perform_next, left_marks, flush_left, advanced, flush_whole}
 
 module _ (s : Session) (memory flash ys : List ℕ) (a n : ℕ) (start : a ≡ to_bytes s.first) (size : n ≡ to_bytes s.size) (fits : a + n ≤ length flash)
@@ -41,6 +41,13 @@ module _ (s : Session) (memory flash ys : List ℕ) (a n : ℕ) (start : a ≡ t
       ∙ ap (λ (t : List ℕ). replace a t flash) (q ∙ ap (perform_all memory actions) part_is)
       ∙ ap (λ (k : ℕ). replace k (perform_all memory actions (window_part s flash)) flash) start
 
+-- what the marks of the finished blocks ask for is what is done before the first failure
+pub first_done : (m : Machine) (finished : ℕ) → finished ≡ finished_blocks (window_worn m.session m.worn) m.session.marks
+    → flush_actions (take finished m.session.marks) ≡ done_actions m
+first_done m finished e =
+    ap (λ (n : ℕ). flush_actions (take n m.session.marks)) e
+    ∙ sym (until_finished (window_worn m.session m.worn) m.session.marks)
+
 -- ---- a flush of the marks before the block that fails, from what its steps promise
 module _ (m : Machine) (t : sound (length m.flash) (length m.worn) (length m.memory) m.session ≡ true) (long : length m.session.marks ≡ 64)
     (failing : Option ℕ) (stops : failing ≡ failing_block (window_worn m.session m.worn) m.session.marks)
@@ -48,12 +55,8 @@ module _ (m : Machine) (t : sound (length m.flash) (length m.worn) (length m.mem
   abbrev worn : List ℕ
   worn = window_worn m.session m.worn
 
-  -- these marks ask for what is done before the first failure
-  first_done : flush_actions kept ≡ done_actions m
-  first_done =
-      before
-      ∙ ap (λ (n : ℕ). flush_actions (take n m.session.marks)) (ap finished_by stops ∙ before_failing worn m.session.marks long)
-      ∙ sym (until_finished worn m.session.marks)
+  kept_done : flush_actions kept ≡ done_actions m
+  kept_done = before ∙ first_done m (finished_by failing) (ap finished_by stops ∙ before_failing worn m.session.marks long)
 
   fails : is_some failing ≡ flush_fails m
   fails = ap is_some stops ∙ failing_some worn m.session.marks long
@@ -65,20 +68,20 @@ module _ (m : Machine) (t : sound (length m.flash) (length m.worn) (length m.mem
   flushed actions number flash =
       rw t
       (λ i. record {
-        actions = (number ∙ ap (length {A = Action}) first_done) i;
+        actions = (number ∙ ap (length {A = Action}) kept_done) i;
         failed = fails i;
         marks = (ap (λ (o : Option ℕ). left_marks o m.session.marks) stops ∙ left_as worn m.session.marks long ∙ ap (λ (b : Bool). cond b (marks_kept worn m.session.marks) clean) (failing_some worn m.session.marks long)) i;
-        flash = (flash ∙ ap (λ (xs : List Action). perform_in m.session m.memory xs m.flash) first_done) i;
+        flash = (flash ∙ ap (λ (xs : List Action). perform_in m.session m.memory xs m.flash) kept_done) i;
       })
 
   -- one action of it
   module _ (awake : m.session.suspended ≡ false) (done : ℕ) (acted : Bool) (next : acted ≡ ltb done (length (flush_actions kept)))
       (flash : after ≡ perform_in m.session m.memory (take 1 (drop done (flush_actions kept))) m.flash) where
     has : acted ≡ has_next m done
-    has = next ∙ ap (λ (xs : List Action). ltb done (length xs)) first_done
+    has = next ∙ ap (λ (xs : List Action). ltb done (length xs)) kept_done
 
     then_flash : after ≡ perform_next m done
-    then_flash = flash ∙ ap (λ (xs : List Action). perform_in m.session m.memory (take 1 (drop done xs)) m.flash) first_done
+    then_flash = flash ∙ ap (λ (xs : List Action). perform_in m.session m.memory (take 1 (drop done xs)) m.flash) kept_done
 
     pub advanced_by : (code : ℕ) → cond (not acted && is_some failing) 3 1 ≡ code → record { code = code; yes = acted; flash = after } ≡ advanced m done
     unfolding advanced perform_in

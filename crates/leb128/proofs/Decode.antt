@@ -81,7 +81,7 @@ run_to_first s at i h =
 module _ (s : List ℕ) (at last : ℕ) (run : Run s at last) where
   -- the number behind offset i, with a group before it
   module _ (i value : ℕ) (low : at < i) (high : i ≤ last) (read : decode (drop i s) ≡ found value (last + 1 - i)) where
-    read_before : decode (drop (i - 1) s) ≡ before (get_or s (i - 1) 0 % 128) (found value (last + 1 - i))
+    pub read_before : decode (drop (i - 1) s) ≡ before (get_or s (i - 1) 0 % 128) (found value (last + 1 - i))
     read_before =
         let here = run.set (i - 1) (omega arith) (omega arith) in
         decode_more s (i - 1) here.1 here.0

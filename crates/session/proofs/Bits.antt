@@ -1,13 +1,36 @@
 -- Laws of bits, and what each change of the event byte leaves of the others.
 use mathlib.Core.Path.{◌≡◌, refl, sym, ap, ◌∙◌}
 use mathlib.Core.Bool.{true, false}
-use Prim.Native.Nat.{ℕ, zero, suc, ◌-◌, ◌≤◌}
+use Prim.Native.Nat.{ℕ, zero, suc, ◌-◌, ◌/◌, ◌%◌, ◌≤◌, min, max}
 use native.Mathlib.Omega.{arith}
-use lib.Bits.{bit_and, and_zero_r, and_le_r}
+use lib.Arith.{bin_ind}
+use lib.Bits.{bit_and, bit_or, and_step, or_step, and_zero_r, and_le_r}
 use Rattle.std.proofs.lemmas.Nat.{and_assoc, and_or_self, and_or_apart}
 use lib.Dec.{eqb}
 use borrow.Author.Tests.{eq-eqb}
 use Rattle.session.specs.Events.{set_bits, clear_bits, is_set, acknowledgeable, acknowledged}
+
+-- an AND of an OR is the OR of both ANDs
+and_or : (a b c : ℕ) → bit_and (bit_or a b) c ≡ bit_or (bit_and a c) (bit_and b c)
+and_or =
+    bin_ind (λ (n : ℕ). (b c : ℕ) → bit_and (bit_or n b) c ≡ bit_or (bit_and n c) (bit_and b c)) (λ b c. refl)
+    (λ n ih b c.
+    let high : bit_and (bit_or n b / 2) (c / 2) ≡ bit_or (bit_and n c / 2) (bit_and b c / 2) = rw (or_half n b, and_half n c, and_half b c) (ih (b / 2) (c / 2)) in
+    let left = and_step (bit_or n b) c in
+    let right = or_step (bit_and n c) (bit_and b c) in
+    omega (arith, high, left, right, or_odd n b, and_odd n c, and_odd b c))
+  where
+    and_half : (a b : ℕ) → bit_and a b / 2 ≡ bit_and (a / 2) (b / 2)
+    and_half a b = omega (arith, and_step a b)
+
+    and_odd : (a b : ℕ) → bit_and a b % 2 ≡ min (a % 2) (b % 2)
+    and_odd a b = omega (arith, and_step a b)
+
+    or_half : (a b : ℕ) → bit_or a b / 2 ≡ bit_or (a / 2) (b / 2)
+    or_half a b = omega (arith, or_step a b)
+
+    or_odd : (a b : ℕ) → bit_or a b % 2 ≡ max (a % 2) (b % 2)
+    or_odd a b = omega (arith, or_step a b)
 
 -- a bit that is set is set
 pub set_bit : (bit events : ℕ) → is_set bit (set_bits bit events) ≡ true
