@@ -97,7 +97,7 @@ own_back h = rw (number_back h.numbered h.previous) refl
 -- ---- a record that is regular, and one that is not
 
 -- what a command leaves of the mediator's outcome
-abbrev passed : Bool → Record → Outcome → Left
+abbrev pub passed : Bool → Record → Outcome → Left
 passed regular h o = left (afterwards regular h o.machine.session) o.registers o.actions o.machine.flash o.machine.memory
 
 by_record : (regular : Bool) (setup : Setup) (h : Record) (registers flash worn memory : List ℕ)

@@ -1,5 +1,6 @@
 -- Laws of a list read in pairs.
-use Rattle.std.proofs.Common.{◌≡◌, ℕ, suc, ◌+◌, ◌≤◌, ◌<◌, Bool, true, false, cond, not, List, [], ◌∷◌, ◌++◌, length, get_or, leb, Err, refl, ap, le_trans, arith}
+use Rattle.std.proofs.Common.{◌≡◌, ◌∙◌, ℕ, suc, ◌+◌, ◌*◌, ◌≤◌, ◌<◌, Bool, true, false, cond, not, List, [], ◌∷◌, ◌++◌, length, get_or, drop, leb, Err, refl, ap, le_trans, arith}
+use lib.Seq.{drop-cons}
 use Rattle.std.proofs.lemmas.Bool.{leb-true, le-leb}
 use Rattle.marklist.specs.declared.ListError.TheVariants.{Outside}
 use Rattle.marklist.specs.MarkList.{Pair, ListAnswer, Marked, pairs_of, first_outside}
@@ -12,7 +13,23 @@ pairs_front list (a ∷ []) rest e l = absurd (omega arith)
 pairs_front list (a ∷ b ∷ []) rest e l = ap pairs_of e
 pairs_front list (a ∷ b ∷ d ∷ pair) rest e l = absurd (omega arith)
 
--- so the answer is that for the pair, or that for the rest
+-- and so does the list from a place on: the pair there, and the rest
+pub pair_at : (list : List ℕ) (place : ℕ) → 2 * place + 1 < length list
+    → pairs_of (drop (2 * place) list)
+    ≡ record { block = get_or list (2 * place) 0; count = get_or list (2 * place + 1) 0 } ∷ pairs_of (drop (2 * (place + 1)) list)
+pair_at list place h =
+    ap pairs_of (drop-cons list (2 * place) 0 (omega arith)
+    ∙ ap (λ (n : ℕ). get_or list (2 * place) 0 ∷ drop n list) one
+    ∙ ap (λ (t : List ℕ). get_or list (2 * place) 0 ∷ t) (drop-cons list (2 * place + 1) 0 h))
+    ∙ ap (λ (n : ℕ). record { block = get_or list (2 * place) 0; count = get_or list (2 * place + 1) 0 } ∷ pairs_of (drop n list)) two
+  where
+    one : suc (2 * place) ≡ 2 * place + 1
+    one = omega arith
+
+    two : suc (2 * place + 1) ≡ 2 * (place + 1)
+    two = omega arith
+
+-- the answer is that for the first pair, or that for the rest
 pub answer_front : (size place : ℕ) (list pair rest : List ℕ) → list ≡ pair ++ rest → length pair ≡ 2
     → first_outside size place (pairs_of list)
     ≡ cond (not (leb (get_or pair 0 0 + get_or pair 1 0) size)) (Err (Outside place)) (first_outside size (suc place) (pairs_of rest))
