@@ -68,7 +68,7 @@ pub(crate) fn write_data(port: &mut [u8; SIZE], byte: u8) -> Option<u8>
     match phase {
         Phase::Writing | Phase::Ending => return keep(port, byte, phase == Phase::Ending),
         Phase::Reading => read_on(port, byte),
-        // the byte is looked at here: in `tell` a wrong one takes a nanosecond more
+        // the byte is looked at here: in `tell` a wrong one takes half a nanosecond more
         Phase::Aborting if byte == 0 => tell(port),
         Phase::Aborting | Phase::Idle | Phase::Awaiting | Phase::Failed => {
             refuse(port, Fault::WrongCode);
